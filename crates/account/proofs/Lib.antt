@@ -1,0 +1,6 @@
+-- Laws of accounts.
+pub mod ChargeLaws
+pub mod EntryLaws
+pub mod RuleLaws
+pub mod ScanLaws
+pub mod SoundLaws

@@ -1,0 +1,398 @@
+-- Soundness of an account as a proposition, and how the rules keep it.
+use Prim.Native.Nat.{ℕ, zero, suc, _+_, _-_, _≤_, _<_, min}
+use mathlib.Core.Bool.{Bool, true, false, cond, _&&_}
+use mathlib.Core.Path.{_≡_, refl, sym, ap, ap₂, _∙_, subst, subst⁻¹}
+use mathlib.Core.List.{List, [], _∷_, _++_}
+use lib.ListN.{length, take, drop, getD, set, replicate, length-set, length-append, length-drop}
+use lib.Seq.{take-append-le, drop-append-le, take-suc-set, drop-set-lt, drop-drop}
+use lib.Dec.{ltb, leb, eqb}
+use native.Mathlib.Numerals.{add-one}
+use native.Mathlib.Omega.{arith}
+use borrow.Author.Tests.{lt-ltb, le-ltb, le-leb, ltb-true, leb-true, lt-leb, leb-false, eqb-true, ne-eqb}
+use Rattle.records.specs.declared.Parameters.{Parameters}
+use Rattle.records.specs.Tests.{all, zeros}
+use Rattle.records.proofs.TestLaws.{tests, All, all-true, true-all, false-true, zeros-drop, zeros-append, zeros-replicate, cond-true, cond-false}
+use Rattle.account.specs.declared.Server.{Server}
+use Rattle.account.specs.declared.Pending.{Pending}
+use Rattle.account.specs.declared.Account.{Account}
+use Rattle.account.specs.declared.Outcome.{Outcome}
+use Rattle.account.specs.declared.Place.{Place}
+use Rattle.account.specs.declared.Place.the-variants.{Stays, Low, LowThenUpper, Upper}
+use Rattle.account.specs.Account.{dues, amounts, isUpper, firstDue, freshAccount}
+use Rattle.account.specs.Rules.{charged, heldAt, replenished, cleared, dueOf, dueNow, withEntry, shifted, withoutFirst, atOnce, madePending, scheduled, activated, outcome, limitReached, blocking, waking, firstIsDue, firstBack, allBack, returning}
+use Rattle.account.specs.Sound.{sum, positive, dueTests, dueEnd, numberTests, amountTests, placeTests, runsUpper, soundTests, soundAt}
+use Rattle.account.proofs.ChargeLaws.{charge-sum}
+use Rattle.account.proofs.RuleLaws.{scheduled-none, scheduled-once, scheduled-later, limit-once, limit-later, back-due, back-done, back-one, due-some, first-due, return-none, return-blocked, return-upper, return-low}
+
+-- dues are after lo, which is now in a sound account; `up`: runnable at the upper priority
+pub record AccountSound (start now lo : ℕ) (up : Bool) (p : Parameters) (a : Account) : Type 0 where
+  pub numbers : All (numberTests start now up p (a .server) (a .pending .count))
+  pub sums : All (amountTests (p .budget) (a .server .capacity + a .server .used) (amounts (a .pending)))
+  pub times : All (dueTests lo (dueEnd now up p (a .server)) (dues (a .pending)))
+  pub duePlaces : All (placeTests (a .pending .count) (a .pending .dues))
+  pub amountPlaces : All (placeTests (a .pending .count) (a .pending .amounts))
+
+module _ (start now : ℕ) (blocked : Bool) (p : Parameters) (a : Account) where
+  pub sound-out : soundAt start now blocked p a ≡ true → AccountSound start now now (runsUpper blocked p a) p a
+  unfolding soundAt
+  sound-out e =
+      let h = all-true (soundTests start now blocked p a) e in
+      record {
+        numbers = all-true (numberTests start now (runsUpper blocked p a) p (a .server) (a .pending .count)) (h .0);
+        sums = all-true (amountTests (p .budget) (a .server .capacity + a .server .used) (amounts (a .pending))) (h .1 .0);
+        times = all-true (dueTests now (dueEnd now (runsUpper blocked p a) p (a .server)) (dues (a .pending))) (h .1 .1 .0);
+        duePlaces = all-true (placeTests (a .pending .count) (a .pending .dues)) (h .1 .1 .1 .0);
+        amountPlaces = all-true (placeTests (a .pending .count) (a .pending .amounts)) (h .1 .1 .1 .1 .0);
+      }
+
+  pub sound-in : AccountSound start now now (runsUpper blocked p a) p a → soundAt start now blocked p a ≡ true
+  unfolding soundAt
+  sound-in h =
+      true-all (soundTests start now blocked p a) (
+        true-all (numberTests start now (runsUpper blocked p a) p (a .server) (a .pending .count)) (h .numbers),
+        (
+          true-all (amountTests (p .budget) (a .server .capacity + a .server .used) (amounts (a .pending))) (h .sums),
+          (
+            true-all (dueTests now (dueEnd now (runsUpper blocked p a) p (a .server)) (dues (a .pending))) (h .times),
+            (
+              true-all (placeTests (a .pending .count) (a .pending .dues)) (h .duePlaces),
+              (true-all (placeTests (a .pending .count) (a .pending .amounts)) (h .amountPlaces), tt),
+            ),
+          ),
+        ),
+      )
+
+-- ---- lists of dues and amounts
+
+-- another lower bound, before the first due
+times-from : (lo hi lo′ n : ℕ) (ds : List ℕ) → All (dueTests lo hi (take n ds))
+    → (0 < cond (eqb n 0) 0 (getD ds 0 0) → lo′ < cond (eqb n 0) 0 (getD ds 0 0)) → All (dueTests lo′ hi (take n ds))
+times-from lo hi lo′ zero ds h q = tt
+times-from lo hi lo′ (suc n) [] h q = tt
+times-from lo hi lo′ (suc n) (d ∷ ds) h q =
+    let r : 0 < d → lo′ < d = rw (ne-eqb (suc n) 0 (λ e. omega arith)) at q in
+    (lt-ltb lo′ d (r (omega (tests, h .0))), h .1)
+
+-- a later end
+times-wider : (lo hi hi′ : ℕ) (ds : List ℕ) → hi ≤ hi′ → All (dueTests lo hi ds) → All (dueTests lo hi′ ds)
+times-wider lo hi hi′ [] l h = tt
+times-wider lo hi hi′ (d ∷ ds) l h = (h .0, (omega (tests, h .1 .0), times-wider d hi hi′ ds l (h .1 .1)))
+
+-- one more due, at or after the old end
+times-more : (lo hi hi′ x : ℕ) (ds : List ℕ) → lo < x → hi ≤ x → x < hi′ → All (dueTests lo hi ds) → All (dueTests lo hi′ (ds ++ x ∷ []))
+times-more lo hi hi′ x [] l m n h = (lt-ltb lo x l, (lt-ltb x hi′ n, tt))
+times-more lo hi hi′ x (d ∷ ds) l m n h =
+    (h .0, (omega (tests, h .1 .0), times-more d hi hi′ x ds (omega (tests, h .1 .0)) m n (h .1 .1)))
+
+sum-more : (x : ℕ) (xs : List ℕ) → sum (xs ++ x ∷ []) ≡ sum xs + x
+sum-more x [] = omega arith
+sum-more x (y ∷ ys) = omega (arith, sum-more x ys)
+
+positive-more : (x : ℕ) (xs : List ℕ) → 0 < x → All (positive xs) → All (positive (xs ++ x ∷ []))
+positive-more x [] l h = omega tests
+positive-more x (y ∷ ys) l h = (h .0, positive-more x ys l (h .1))
+
+-- ---- time passes
+
+module _ (start now lo : ℕ) (p : Parameters) (a : Account) where
+  pub time-passes : (now′ lo′ : ℕ) (up : Bool) → AccountSound start now lo up p a → now ≤ now′
+      → (0 < firstDue (a .pending) → lo′ < firstDue (a .pending)) → AccountSound start now′ lo′ up p a
+  time-passes now′ lo′ up h l q =
+      record {
+        numbers = omega (tests, h .numbers);
+        sums = h .sums;
+        times =
+            times-from lo (dueEnd now′ up p (a .server)) lo′ (a .pending .count) (a .pending .dues)
+            (times-wider lo (dueEnd now up p (a .server)) (dueEnd now′ up p (a .server)) (dues (a .pending)) (later up) (h .times)) q;
+        duePlaces = h .duePlaces;
+        amountPlaces = h .amountPlaces;
+      }
+    where
+      later : (up : Bool) → dueEnd now up p (a .server) ≤ dueEnd now′ up p (a .server)
+      later true = omega arith
+      later false = omega arith
+
+  -- ticks at the upper priority
+  pub charge-sound : (k lo′ : ℕ) → AccountSound start now lo true p a → k ≤ a .server .capacity
+      → (0 < firstDue (a .pending) → lo′ < firstDue (a .pending))
+      → AccountSound start (now + k) lo′ true p (record { server = charged k (a .server); pending = a .pending })
+  charge-sound k lo′ h l q =
+      record {
+        numbers = omega (tests, h .numbers);
+        sums = rw (charge-sum k (a .server) l) (h .sums);
+        times = times-from lo (a .server .activation + p .period) lo′ (a .pending .count) (a .pending .dues) (h .times) q;
+        duePlaces = h .duePlaces;
+        amountPlaces = h .amountPlaces;
+      }
+
+  -- nothing is charged: the same account of a thread that is blocked or low
+  pub lower-sound : (up : Bool) → AccountSound start now lo up p a → a .server .used ≡ 0 → AccountSound start now lo false p a
+  lower-sound up h e =
+      record {
+        numbers = omega (tests, h .numbers);
+        sums = h .sums;
+        times = times-wider lo (dueEnd now up p (a .server)) (now + p .period) (dues (a .pending)) (sooner up (h .numbers)) (h .times);
+        duePlaces = h .duePlaces;
+        amountPlaces = h .amountPlaces;
+      }
+    where
+      sooner : (up : Bool) → All (numberTests start now up p (a .server) (a .pending .count)) → dueEnd now up p (a .server) ≤ now + p .period
+      sooner true n = omega (tests, n)
+      sooner false n = omega arith
+
+  -- the activation time becomes now
+  pub activate-sound : AccountSound start now lo false p a → start ≤ now → AccountSound start now lo true p (activated now a)
+  activate-sound h l = record { numbers = omega (tests, h .numbers); sums = h .sums; times = h .times; duePlaces = h .duePlaces; amountPlaces = h .amountPlaces }
+
+  -- ---- U is scheduled
+
+  -- it is pending
+  pub later-sound : AccountSound start now lo true p a → lo ≤ now → a .pending .count < p .«max_repl» → p .«max_repl» ≤ 8 → 0 < a .server .used
+      → now < dueOf p (a .server)
+      → AccountSound start now lo false p (madePending p a)
+  later-sound h l m m8 u d =
+      let t = dueOf p (a .server) in
+      let x = a .server .used in
+      let ds = a .pending .dues in
+      let xs = a .pending .amounts in
+      let n = a .pending .count in
+      let qd : take (n + 1) (set ds n t) ≡ take n ds ++ t ∷ [] = rw add-one (take-suc-set ds n t (omega (tests, h .duePlaces .0))) in
+      let qx : take (n + 1) (set xs n x) ≡ take n xs ++ x ∷ [] = rw add-one (take-suc-set xs n x (omega (tests, h .amountPlaces .0))) in
+      record {
+        numbers = omega (tests, h .numbers);
+        sums = rw (qx, sum-more x (take n xs)) (omega (tests, h .sums .0), positive-more x (take n xs) u (h .sums .1));
+        times =
+            rw qd
+            (times-more lo (a .server .activation + p .period) (now + p .period) t (take n ds) (omega arith) (omega arith) (omega (tests, h .numbers)) (h .times));
+        duePlaces = kept n ds t (h .duePlaces);
+        amountPlaces = kept n xs x (h .amountPlaces);
+      }
+    where
+      kept : (n : ℕ) (xs : List ℕ) (x : ℕ) → All (placeTests n xs) → All (placeTests (n + 1) (set xs n x))
+      kept n xs x g = (
+        ap (λ (k : ℕ). eqb k 8) (length-set xs n x) ∙ g .0,
+        rw (drop-set-lt (n + 1) xs n x (omega arith) ∙ sym (drop-drop 1 n xs)) (zeros-drop 1 (drop n xs) (g .1)),
+      )
+
+  -- it comes back at once
+  pub once-sound : AccountSound start now lo true p a
+      → AccountSound start now lo false p (atOnce p a)
+  once-sound h =
+      let e : min (a .server .capacity + a .server .used) (p .budget) + 0 ≡ a .server .capacity + a .server .used = omega (tests, h .sums .0) in
+      record {
+        numbers = omega (tests, h .numbers);
+        sums = rw e (h .sums);
+        times = times-wider lo (a .server .activation + p .period) (now + p .period) (dues (a .pending)) (omega (tests, h .numbers)) (h .times);
+        duePlaces = h .duePlaces;
+        amountPlaces = h .amountPlaces;
+      }
+
+  -- whichever it is, the account is that of a thread that is blocked or low
+  pub schedule-sound : (up : Bool) → AccountSound start now lo up p a → lo ≤ now → p .«max_repl» ≤ 8
+      → (up ≡ true → a .pending .count < p .«max_repl») → AccountSound start now lo false p (scheduled now p a)
+  schedule-sound up h l m8 m = go (a .server .used) refl up h m
+    where
+      go : (n : ℕ) → a .server .used ≡ n → (up : Bool) → AccountSound start now lo up p a → (up ≡ true → a .pending .count < p .«max_repl»)
+          → AccountSound start now lo false p (scheduled now p a)
+      go zero e up h m = rw (scheduled-none now p a e) (lower-sound up h e)
+      go (suc n) e false h m = absurd (omega (tests, h .numbers))
+      go (suc n) e true h m = by (dueNow now p (a .server)) refl
+        where
+          by : (b : Bool) → dueNow now p (a .server) ≡ b → AccountSound start now lo false p (scheduled now p a)
+          by true d = rw (scheduled-once now p a (omega arith) d) (once-sound h)
+          by false d = rw (scheduled-later now p a (omega arith) d) (later-sound h l (m refl) m8 (omega arith) (leb-false _ _ d))
+
+-- ---- the rules: what each leaves, and where it sends a runnable thread
+
+pub record Sent (start now lo : ℕ) (up : Bool) (p : Parameters) (x : Place) (o : Outcome) : Type 0 where
+  pub sound : AccountSound start now lo up p (o .account)
+  pub upper : isUpper p (o .account) ≡ up
+  pub place : o .place ≡ x
+
+upper-yes : (p : Parameters) (a : Account) → 0 < a .server .capacity → a .pending .count < p .«max_repl» → isUpper p a ≡ true
+upper-yes p a h l = simp (lt-ltb 0 (a .server .capacity) h, lt-ltb (a .pending .count) (p .«max_repl») l)
+
+upper-no : (p : Parameters) (a : Account) → a .server .capacity ≡ 0 → isUpper p a ≡ false
+upper-no p a e = simp (le-ltb 0 (a .server .capacity) (omega arith))
+
+pub upper-room : (p : Parameters) (a : Account) → isUpper p a ≡ true → (0 < a .server .capacity) × (a .pending .count < p .«max_repl»)
+upper-room p a e = go (ltb 0 (a .server .capacity)) refl e
+  where
+    go : (b : Bool) → ltb 0 (a .server .capacity) ≡ b → (b && ltb (a .pending .count) (p .«max_repl»)) ≡ true
+        → (0 < a .server .capacity) × (a .pending .count < p .«max_repl»)
+    go true q r = (ltb-true 0 (a .server .capacity) q, ltb-true (a .pending .count) (p .«max_repl») r)
+    go false q r = false-true r
+
+module _ (start now : ℕ) (p : Parameters) where
+  -- an account as opening and a set give it
+  pub fresh-sound : (up : Bool) → start ≤ now → 1 ≤ p .budget → 1 ≤ p .«max_repl»
+      → AccountSound start now now up p (freshAccount now p) × (isUpper p (freshAccount now p) ≡ true)
+  fresh-sound up l b m = (
+    record {
+      numbers = by up;
+      sums = omega tests;
+      times = tt;
+      duePlaces = (refl, zeros-replicate 8);
+      amountPlaces = (refl, zeros-replicate 8);
+    },
+    upper-yes p (freshAccount now p) b m,
+  )
+    where
+      by : (up : Bool) → All (numberTests start now up p (freshAccount now p .server) 0)
+      by true = omega tests
+      by false = omega tests
+
+  module _ (lo : ℕ) (a : Account) where
+    -- the limit, at its instant: a thread that was at its upper priority, with its capacity used up
+    module _ (h : AccountSound start now lo true p a) (u : 0 < a .server .used) (m : a .pending .count < p .«max_repl») where
+      pub limit-once-sound : start ≤ now → dueNow now p (a .server) ≡ true → Sent start now lo true p LowThenUpper (limitReached now p a)
+      limit-once-sound l d =
+          rw (limit-once now p a u d, scheduled-once now p a u d)
+          (record {
+            sound = activate-sound start now lo p (atOnce p a) (once-sound start now lo p a h) l;
+            upper = upper-yes p (activated now (atOnce p a)) (omega (tests, h .sums .0)) m;
+            place = refl;
+          })
+
+      pub limit-later-sound : lo ≤ now → p .«max_repl» ≤ 8 → a .server .capacity ≡ 0 → dueNow now p (a .server) ≡ false
+          → Sent start now lo false p Low (limitReached now p a)
+      limit-later-sound l m8 z d =
+          rw (limit-later now p a u d, scheduled-later now p a u d)
+          (record {
+            sound = later-sound start now lo p a h l m m8 u (leb-false _ _ d);
+            upper = upper-no p (madePending p a) z;
+            place = refl;
+          })
+
+    -- a block: the thread stands in no list afterwards
+    pub block-sound : (up : Bool) → AccountSound start now lo up p a → lo ≤ now → p .«max_repl» ≤ 8
+        → (up ≡ true → a .pending .count < p .«max_repl») → AccountSound start now lo false p (blocking now p a .account)
+    block-sound up h l m8 m = schedule-sound start now lo p a up h l m8 m
+
+    -- a wake of a blocked thread
+    pub wake-upper : AccountSound start now lo false p a → start ≤ now → isUpper p a ≡ true → Sent start now lo true p Upper (waking now p a)
+    wake-upper h l e = rw e (record { sound = activate-sound start now lo p a h l; upper = e; place = refl })
+
+    pub wake-low : AccountSound start now lo false p a → isUpper p a ≡ false → Sent start now lo false p Low (waking now p a)
+    wake-low h e = rw e (record { sound = h; upper = e; place = refl })
+
+-- ---- what is due comes back
+
+-- the first of n + 1 places goes, and the others move up
+pop-part : (n : ℕ) (xs : List ℕ) → suc n ≤ length xs → take n (shifted xs) ≡ drop 1 (take (suc n) xs)
+pop-part n [] l = absurd (omega arith)
+pop-part n (x ∷ xs) l = take-append-le n xs (0 ∷ []) (omega arith)
+
+pop-places : (n : ℕ) (xs : List ℕ) → suc n ≤ length xs → All (placeTests (suc n) xs) → All (placeTests n (shifted xs))
+pop-places n [] l g = absurd (omega arith)
+pop-places n (x ∷ xs) l g = (
+  rw (length-append xs (0 ∷ [])) (omega (tests, g .0)),
+  rw (drop-append-le n xs (0 ∷ []) (omega arith)) (zeros-append (drop n xs) (0 ∷ []) (g .1) (refl, tt)),
+)
+
+pop-sum : (n : ℕ) (xs : List ℕ) → suc n ≤ length xs → All (positive (take (suc n) xs))
+    → (sum (take (suc n) xs) ≡ getD xs 0 0 + sum (drop 1 (take (suc n) xs))) × (0 < getD xs 0 0) × All (positive (drop 1 (take (suc n) xs)))
+pop-sum n [] l g = absurd (omega arith)
+pop-sum n (x ∷ xs) l g = (refl, omega (tests, g .0), g .1)
+
+pop-times : (lo hi n : ℕ) (ds : List ℕ) → suc n ≤ length ds → All (dueTests lo hi (take (suc n) ds))
+    → (lo < getD ds 0 0) × All (dueTests (getD ds 0 0) hi (drop 1 (take (suc n) ds)))
+pop-times lo hi n [] l g = absurd (omega arith)
+pop-times lo hi n (d ∷ ds) l g = (omega (tests, g .0), g .1 .1)
+
+module _ (start now lo : ℕ) (up : Bool) (p : Parameters) (a : Account) (h : AccountSound start now lo up p a) where
+  -- the first comes back at the instant at which it is due
+  pub back-sound : firstIsDue now (a .pending) ≡ true → now ≤ lo + 1 → AccountSound start now now up p (firstBack p a)
+  back-sound e l = go (a .pending .count) refl
+    where
+      due : getD (a .pending .dues) 0 0 ≤ now
+      due = first-due now p a e
+
+      go : (n : ℕ) → a .pending .count ≡ n → AccountSound start now now up p (firstBack p a)
+      go zero z = absurd (omega (arith, due-some now p a e))
+      go (suc n) z =
+          let m : a .pending .count - 1 ≡ n = omega arith in
+          let ls : suc n ≤ length (a .pending .amounts) = omega (tests, h .numbers, h .amountPlaces .0) in
+          let lt : suc n ≤ length (a .pending .dues) = omega (tests, h .numbers, h .duePlaces .0) in
+          let s = pop-sum n (a .pending .amounts) ls (rw z at (h .sums .1)) in
+          let f = rw z at (h .sums .0) in
+          let t = pop-times lo (dueEnd now up p (a .server)) n (a .pending .dues) lt (rw z at (h .times)) in
+          let d : getD (a .pending .dues) 0 0 ≡ now = omega (arith, due) in
+          record {
+            numbers = omega (tests, h .numbers);
+            sums = rw (m, pop-part n (a .pending .amounts) ls) (omega (tests, f, s .0), s .2);
+            times = rw (m, pop-part n (a .pending .dues) lt) (rw d at (t .1));
+            duePlaces = rw m (pop-places n (a .pending .dues) lt (rw z at (h .duePlaces)));
+            amountPlaces = rw m (pop-places n (a .pending .amounts) ls (rw z at (h .amountPlaces)));
+          }
+
+  -- nothing is due: dues are after now
+  pub none-sound : firstIsDue now (a .pending) ≡ false → AccountSound start now now up p a
+  none-sound e =
+      record {
+        numbers = h .numbers;
+        sums = h .sums;
+        times = go (a .pending .count) (a .pending .dues) e (h .times);
+        duePlaces = h .duePlaces;
+        amountPlaces = h .amountPlaces;
+      }
+    where
+      go : (n : ℕ) (ds : List ℕ) → (ltb 0 n && leb (getD ds 0 0) now) ≡ false → All (dueTests lo (dueEnd now up p (a .server)) (take n ds))
+          → All (dueTests now (dueEnd now up p (a .server)) (take n ds))
+      go zero ds e t = tt
+      go (suc n) [] e t = tt
+      go (suc n) (d ∷ ds) e t =
+          let f : leb d now ≡ false = rw (lt-ltb 0 (suc n) (omega arith)) at e in
+          (lt-ltb now d (leb-false d now f), t .1)
+
+  -- capacity and room: at least 1 came back, and one fewer is pending
+  pub back-upper : firstIsDue now (a .pending) ≡ true → 1 ≤ p .budget → isUpper p (firstBack p a) ≡ true
+  back-upper e b = go (a .pending .count) refl
+    where
+      go : (n : ℕ) → a .pending .count ≡ n → isUpper p (firstBack p a) ≡ true
+      go zero z = absurd (omega (arith, due-some now p a e))
+      go (suc n) z =
+          let ls : suc n ≤ length (a .pending .amounts) = omega (tests, h .numbers, h .amountPlaces .0) in
+          let s = pop-sum n (a .pending .amounts) ls (rw z at (h .sums .1)) in
+          upper-yes p (firstBack p a) (omega (arith, s .1)) (omega (tests, h .numbers))
+
+-- in a sound account no two dues fall on one instant, so one replenishment is all that comes back
+pub back-once : (start now lo : ℕ) (up : Bool) (p : Parameters) (a : Account) → AccountSound start now lo up p a → now ≤ lo + 1
+    → firstIsDue now (a .pending) ≡ true → allBack (a .pending .count) now p a ≡ firstBack p a
+back-once start now lo up p a h l e =
+    let b = back-sound start now lo up p a h e l in
+    sym (back-one now p a e)
+    ∙ back-done now p (firstBack p a) (firstBack p a .pending .count)
+    (later (a .pending .count - 1) (shifted (a .pending .dues)) (omega (tests, b .numbers, b .duePlaces .0)) (b .times))
+  where
+    later : (n : ℕ) (ds : List ℕ) → n ≤ length ds → All (dueTests now (dueEnd now up p (firstBack p a .server)) (take n ds))
+        → (ltb 0 n && leb (getD ds 0 0) now) ≡ false
+    later zero ds g t = refl
+    later (suc n) [] g t = absurd (omega arith)
+    later (suc n) (d ∷ ds) g t = simp (lt-ltb 0 (suc n) (omega arith), lt-leb d now (omega (tests, t .0)))
+
+-- what the return of what is due leaves, and where it sends the thread
+pub data Returned (start now : ℕ) (blocked : Bool) (p : Parameters) (a : Account) (o : Outcome) : Type 0 where
+  stays : o .place ≡ Stays → AccountSound start now now (runsUpper blocked p a) p (o .account) → runsUpper blocked p (o .account) ≡ runsUpper blocked p a
+      → Returned start now blocked p a o
+  raised : o .place ≡ Upper → blocked ≡ false → isUpper p a ≡ false → AccountSound start now now true p (o .account) → isUpper p (o .account) ≡ true
+      → Returned start now blocked p a o
+
+pub return-sound : (start now lo : ℕ) (blocked : Bool) (p : Parameters) (a : Account) → AccountSound start now lo (runsUpper blocked p a) p a → now ≤ lo + 1
+    → start ≤ now → 1 ≤ p .budget → Returned start now blocked p a (returning now blocked p a)
+return-sound start now lo blocked p a h l st b = go (firstIsDue now (a .pending)) refl blocked h (isUpper p a) refl
+  where
+    go : (d : Bool) → firstIsDue now (a .pending) ≡ d → (blocked : Bool) → AccountSound start now lo (runsUpper blocked p a) p a → (u : Bool) → isUpper p a ≡ u
+        → Returned start now blocked p a (returning now blocked p a)
+    go false e blocked h u f =
+        rw (return-none now p a blocked e) (stays refl (none-sound start now lo (runsUpper blocked p a) p a h e) refl)
+    go true e true h u f =
+        rw (return-blocked now p a true e refl, back-once start now lo false p a h l e)
+        (stays refl (back-sound start now lo false p a h e l) refl)
+    go true e false h true f =
+        rw (return-upper now p a false e refl f, back-once start now lo (isUpper p a) p a h l e)
+        (stays refl (back-sound start now lo (isUpper p a) p a h e l) (back-upper start now lo (isUpper p a) p a h e b ∙ sym f))
+    go true e false h false f =
+        rw (return-low now p a false e refl f, back-once start now lo (isUpper p a) p a h l e)
+        (raised refl refl f (activate-sound start now now p (firstBack p a) (rw f at (back-sound start now lo (isUpper p a) p a h e l)) st)
+        (back-upper start now lo (isUpper p a) p a h e b))

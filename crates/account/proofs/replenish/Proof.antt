@@ -1,0 +1,21 @@
+-- `account::replenish` meets its contract.
+use borrow.Author.Needs.{needs}
+use Prim.Native.Nat.{ℕ}
+use mathlib.Core.Path.{ap}
+use Rattle.account.specs.declared.Server.{Server}
+use Rattle.account.proofs.replenish.Statement.{statement}
+use Rattle.account.proofs.replenish.Tie as tie
+
+abbrev made : ℕ → ℕ → ℕ → Server
+made c u a = record { capacity = c; used = u; activation = a }
+
+held-requires : tie.Need-held-requires
+held-requires c κs = search needs
+
+returns : tie.Need-returns
+returns c =
+    let s = c .before .args .s in
+    ap (λ (n : ℕ). made n (s .used) (s .activation)) (c .held .ensures)
+
+pub replenish-spec : {M : Type 1} → statement M
+replenish-spec = tie.close (tie.spec held-requires returns)

@@ -1,0 +1,4 @@
+-- What a reader of `account` must believe.
+pub mod Account
+pub mod Rules
+pub mod Sound

@@ -1,0 +1,349 @@
+// One sporadic account: the rules of SCHED_SPORADIC over its parameters and itself, by value. No thread, no list.
+ghost use mathlib.Core.Path.{_≡_};
+ghost use Prim.Native.Nat.{_+_, _<_, _≤_, _^_};
+ghost use mathlib.Core.Bool.{false, cond};
+ghost use Rattle.account.specs.Account.{atUpper, firstDue, freshAccount};
+ghost use Rattle.account.specs.Rules.{
+  charged,
+  heldAt,
+  replenished,
+  dueNow,
+  scheduled,
+  activated,
+  limitReached,
+  blocking,
+  waking,
+  firstIsDue,
+  firstBack,
+  allBack,
+  returning,
+};
+ghost use Rattle.account.specs.Sound.{soundAt};
+use records::Parameters;
+
+mod entries; // entries.rt: an entry comes, and the first one goes
+mod tests; // tests.rt: what soundness asks of the pending entries
+
+// How many pending replenishments an account has places for.
+pub const ENTRIES: usize = 8;
+
+// Capacity, the charged time that is not yet scheduled (01's U), and the activation time.
+pub struct Server {
+    pub capacity: u64,
+    pub used: u64,
+    pub activation: u64,
+}
+
+// The first `count` places hold the pending replenishments in order of their due times; the others hold 0.
+pub struct Pending {
+    pub count: u8,
+    pub dues: [u64; ENTRIES],
+    pub amounts: [u64; ENTRIES],
+}
+
+pub struct Account {
+    pub server: Server,
+    pub pending: Pending,
+}
+
+// Where a rule sends the thread: Low and Upper are the tails of its two lists.
+pub enum Place {
+    Stays,
+    Low,
+    LowThenUpper,
+    Upper,
+}
+
+// A rule's answer: the account, and where the thread goes.
+pub struct Outcome {
+    pub account: Account,
+    pub place: Place,
+}
+
+// The account that opening and a set give.
+pub fn fresh(p: Parameters, now: u64) -> Account
+    ensures { λ r. ⌜ r ≡ freshAccount now p ⌝ }
+{
+    Account {
+        server: Server {
+            capacity: p.budget,
+            used: 0,
+            activation: now,
+        },
+        pending: Pending {
+            count: 0,
+            dues: [0u64; ENTRIES],
+            amounts: [0u64; ENTRIES],
+        },
+    }
+}
+
+// Whether the assigned priority is the upper one.
+pub fn at_upper(p: Parameters, capacity: u64, count: u8) -> bool
+    ensures { λ r. ⌜ r ≡ atUpper p capacity count ⌝ }
+{
+    if capacity == 0 {
+        return false;
+    }
+    count < p.max_repl
+}
+
+// When the first pending replenishment is due; 0 where none is pending.
+pub fn first_due(q: Pending) -> u64
+    ensures { λ r. ⌜ r ≡ firstDue q ⌝ }
+{
+    if q.count == 0 {
+        return 0;
+    }
+    q.dues[0]
+}
+
+// k ticks run at the upper priority.
+pub fn charge(s: Server, k: u64) -> Server
+    requires { ⌜ (k ≤ s .capacity) × (s .used + k < 2 ^ 64) ⌝ }
+    ensures { λ r. ⌜ r ≡ charged k s ⌝ }
+{
+    Server {
+        capacity: s.capacity - k,
+        used: s.used + k,
+        activation: s.activation,
+    }
+}
+
+// capacity + amount, held at the budget, with no sum that could wrap.
+fn held(capacity: u64, amount: u64, budget: u64) -> u64
+    ensures { λ r. ⌜ r ≡ heldAt budget (capacity + amount) ⌝ }
+{
+    if budget <= capacity {
+        return budget;
+    }
+    if budget - capacity <= amount {
+        return budget;
+    }
+    capacity + amount
+}
+
+// An amount comes back.
+fn replenish(p: Parameters, s: Server, amount: u64) -> Server
+    ensures { λ r. ⌜ r ≡ replenished amount p s ⌝ }
+{
+    Server {
+        capacity: held(s.capacity, amount, p.budget),
+        used: s.used,
+        activation: s.activation,
+    }
+}
+
+// Whether U would be due at or before now.
+fn due_by(p: Parameters, s: Server, now: u64) -> bool
+    ensures { λ r. ⌜ r ≡ dueNow now p s ⌝ }
+{
+    if now < s.activation {
+        return false;
+    }
+    p.period <= now - s.activation
+}
+
+// U is scheduled: nothing where it is 0, at once where it is due by now, else pending.
+pub fn schedule(p: Parameters, a: Account, now: u64) -> Account
+    requires { ⌜ (a .server .activation + p .period < 2 ^ 64) × (0 < a .server .used → a .pending .count < 8) ⌝ }
+    ensures { λ r. ⌜ r ≡ scheduled now p a ⌝ }
+{
+    let s = a.server;
+    let q = a.pending;
+    if s.used == 0 {
+        return a;
+    }
+    let cleared = Server {
+        capacity: s.capacity,
+        used: 0,
+        activation: s.activation,
+    };
+    if due_by(p, s, now) {
+        let back = replenish(p, cleared, s.used);
+        return Account {
+            server: back,
+            pending: q,
+        };
+    }
+    let more = entries::push(q, s.activation + p.period, s.used);
+    Account {
+        server: cleared,
+        pending: more,
+    }
+}
+
+// The account with activation time now.
+fn activate(a: Account, now: u64) -> Account
+    ensures { λ r. ⌜ r ≡ activated now a ⌝ }
+{
+    let q = a.pending;
+    Account {
+        server: Server {
+            capacity: a.server.capacity,
+            used: a.server.used,
+            activation: now,
+        },
+        pending: q,
+    }
+}
+
+// The limit is reached: U is scheduled, and the thread goes to low, or on to upper where U came back at once.
+pub fn limit_reached(p: Parameters, a: Account, now: u64) -> Outcome
+    requires { ⌜ (a .server .activation + p .period < 2 ^ 64) × (0 < a .server .used → a .pending .count < 8) ⌝ }
+    ensures { λ r. ⌜ r ≡ limitReached now p a ⌝ }
+{
+    let s = a.server;
+    let b = schedule(p, a, now);
+    if s.used == 0 {
+        return Outcome {
+            account: b,
+            place: Place::Low,
+        };
+    }
+    if due_by(p, s, now) {
+        let up = activate(b, now);
+        return Outcome {
+            account: up,
+            place: Place::LowThenUpper,
+        };
+    }
+    Outcome {
+        account: b,
+        place: Place::Low,
+    }
+}
+
+// The running thread blocks: U is scheduled.
+pub fn block(p: Parameters, a: Account, now: u64) -> Outcome
+    requires { ⌜ (a .server .activation + p .period < 2 ^ 64) × (0 < a .server .used → a .pending .count < 8) ⌝ }
+    ensures { λ r. ⌜ r ≡ blocking now p a ⌝ }
+{
+    let scheduled = schedule(p, a, now);
+    Outcome {
+        account: scheduled,
+        place: Place::Stays,
+    }
+}
+
+// A blocked thread wakes, at the upper or the low priority.
+pub fn wake(p: Parameters, a: Account, now: u64) -> Outcome
+    ensures { λ r. ⌜ r ≡ waking now p a ⌝ }
+{
+    if at_upper(p, a.server.capacity, a.pending.count) {
+        let b = activate(a, now);
+        return Outcome {
+            account: b,
+            place: Place::Upper,
+        };
+    }
+    Outcome {
+        account: a,
+        place: Place::Low,
+    }
+}
+
+// Whether the first pending replenishment is due.
+fn first_is_due(pending: Pending, now: u64) -> bool
+    ensures { λ r. ⌜ r ≡ firstIsDue now pending ⌝ }
+{
+    if pending.count == 0 {
+        return false;
+    }
+    pending.dues[0] <= now
+}
+
+// The first pending replenishment comes back.
+fn first_back(p: Parameters, a: Account) -> Account
+    requires { ⌜ 0 < a .pending .count ⌝ }
+    ensures { λ r. ⌜ r ≡ firstBack p a ⌝ }
+{
+    let s = a.server;
+    let q = a.pending;
+    Account {
+        server: replenish(p, s, q.amounts[0]),
+        pending: entries::without_first(q),
+    }
+}
+
+// Every pending replenishment that is due comes back, in order.
+fn all_back(p: Parameters, a: Account, now: u64) -> Account
+    ensures { λ r. ⌜ r ≡ allBack (a .pending .count) now p a ⌝ }
+{
+    let mut r = a;
+    loop {
+        let q = r.pending;
+        if first_is_due(q, now) {
+            r = first_back(p, r);
+            continue;
+        }
+        return r;
+    }
+}
+
+// What is due comes back; a runnable thread that was at low goes to upper.
+pub fn return_due(p: Parameters, a: Account, blocked: bool, now: u64) -> Outcome
+    ensures { λ r. ⌜ r ≡ returning now blocked p a ⌝ }
+{
+    let q = a.pending;
+    if first_is_due(q, now) {
+        let b = all_back(p, a, now);
+        if blocked {
+            return Outcome {
+                account: b,
+                place: Place::Stays,
+            };
+        }
+        if at_upper(p, a.server.capacity, q.count) {
+            return Outcome {
+                account: b,
+                place: Place::Stays,
+            };
+        }
+        let c = activate(b, now);
+        return Outcome {
+            account: c,
+            place: Place::Upper,
+        };
+    }
+    Outcome {
+        account: a,
+        place: Place::Stays,
+    }
+}
+
+// Whether the account is sound at a time, for any values of its fields.
+pub fn sound(p: Parameters, a: Account, blocked: bool, start: u64, now: u64) -> bool
+    ensures { λ r. ⌜ r ≡ soundAt start now blocked p a ⌝ }
+{
+    let s = a.server;
+    let count = a.pending.count;
+    let up = runs_upper(p, s.capacity, count, blocked);
+    if !tests::numbers_hold(p, s, count, up, start, now) {
+        return false;
+    }
+    let n = entries::wide(count);
+    let amounts = a.pending.amounts;
+    if !tests::amounts_hold(p.budget, s.capacity, s.used, amounts, n) {
+        return false;
+    }
+    let dues = a.pending.dues;
+    let base = tests::either(up, s.activation, now);
+    if !tests::dues_hold(dues, n, now, base, p.period) {
+        return false;
+    }
+    if !tests::places_hold(dues, n) {
+        return false;
+    }
+    tests::places_hold(amounts, n)
+}
+
+// A runnable thread at its upper priority.
+fn runs_upper(p: Parameters, capacity: u64, count: u8, blocked: bool) -> bool
+    ensures { λ r. ⌜ r ≡ cond blocked false (atUpper p capacity count) ⌝ }
+{
+    if blocked {
+        return false;
+    }
+    at_upper(p, capacity, count)
+}

@@ -1,0 +1,373 @@
+// Runs stored cases of the account rules and prints each account, for comparison with the file stdout.
+// A line: capacity, U, activation time, pending count, then due and amount of each pending replenishment, `|`,
+// 1 where the account is sound else 0, and where the thread goes: 0 stays, 1 low, 2 low then upper, 3 upper.
+use account::Account;
+use account::Outcome;
+use account::Pending;
+use account::Place;
+use account::Server;
+use libc::STDOUT_FILENO;
+use records::Parameters;
+
+fn number(n: u64) {
+    io::print_decimal(STDOUT_FILENO, n);
+    io::write_all(STDOUT_FILENO, b" ");
+}
+
+fn print_entries(q: Pending) {
+    let mut i: usize = 0;
+    while i < 8 {
+        let k = i;
+        i = i + 1;
+        if (k as u64) < (q.count as u64) {
+            number(q.dues[k]);
+            number(q.amounts[k]);
+        }
+    }
+}
+
+fn place_number(x: Place) -> u64 {
+    match x {
+        Place::Stays => 0,
+        Place::Low => 1,
+        Place::LowThenUpper => 2,
+        Place::Upper => 3,
+    }
+}
+
+fn print_account(p: Parameters, a: Account, blocked: bool, now: u64) {
+    number(a.server.capacity);
+    number(a.server.used);
+    number(a.server.activation);
+    number(a.pending.count as u64);
+    let q = a.pending;
+    print_entries(q);
+    io::write_all(STDOUT_FILENO, b"|");
+    if account::sound(p, a, blocked, 0, now) {
+        io::write_all(STDOUT_FILENO, b" 1");
+    } else {
+        io::write_all(STDOUT_FILENO, b" 0");
+    }
+}
+
+fn end_line() {
+    io::write_all(STDOUT_FILENO, b"\n");
+}
+
+fn print_outcome(p: Parameters, o: Outcome, blocked: bool, now: u64) {
+    let a = o.account;
+    let x = o.place;
+    print_account(p, a, blocked, now);
+    io::write_all(STDOUT_FILENO, b" ");
+    io::print_decimal(STDOUT_FILENO, place_number(x));
+    end_line();
+}
+
+fn title(text: &[u8]) {
+    io::write_all(STDOUT_FILENO, text);
+    end_line();
+}
+
+fn sporadic(budget: u64, period: u64, max_repl: u8) -> Parameters {
+    Parameters {
+        policy: 2,
+        priority: 20,
+        low: 5,
+        max_repl: max_repl,
+        flag: 0,
+        budget: budget,
+        period: period,
+    }
+}
+
+// k ticks at the upper priority, up to the time `now`.
+fn run(p: Parameters, a: Account, k: u64, now: u64) -> Account {
+    let s = a.server;
+    if s.capacity < k {
+        title(b"no capacity");
+        return a;
+    }
+    if 1000000000 < s.capacity {
+        title(b"too much capacity");
+        return a;
+    }
+    if 1000000000 < s.used {
+        title(b"too much used");
+        return a;
+    }
+    let t = account::charge(s, k);
+    let q = a.pending;
+    let b = Account {
+        server: t,
+        pending: q,
+    };
+    print_account(p, b, false, now);
+    end_line();
+    b
+}
+
+fn limit(p: Parameters, a: Account, now: u64) -> Account {
+    if 1000000000000000 < a.server.activation {
+        return a;
+    }
+    if 1000000000 < p.period {
+        return a;
+    }
+    if 8 <= a.pending.count {
+        return a;
+    }
+    let o = account::limit_reached(p, a, now);
+    print_outcome(p, o, false, now);
+    o.account
+}
+
+fn block(p: Parameters, a: Account, now: u64) -> Account {
+    if 1000000000000000 < a.server.activation {
+        return a;
+    }
+    if 1000000000 < p.period {
+        return a;
+    }
+    if 8 <= a.pending.count {
+        return a;
+    }
+    let o = account::block(p, a, now);
+    print_outcome(p, o, true, now);
+    o.account
+}
+
+fn wake(p: Parameters, a: Account, now: u64) -> Account {
+    let o = account::wake(p, a, now);
+    print_outcome(p, o, false, now);
+    o.account
+}
+
+fn due(p: Parameters, a: Account, blocked: bool, now: u64) -> Account {
+    let o = account::return_due(p, a, blocked, now);
+    print_outcome(p, o, blocked, now);
+    o.account
+}
+
+// 01's worked replay, thread 0.
+fn replay() {
+    title(b"replay");
+    let p = sporadic(10, 40, 2);
+    let a = account::fresh(p, 0);
+    let b = run(p, a, 6, 6);
+    let c = block(p, b, 6);
+    let d = wake(p, c, 15);
+    let e = run(p, d, 4, 19);
+    let f = limit(p, e, 19);
+    let g = due(p, f, false, 40);
+    let h = run(p, g, 6, 46);
+    let i = limit(p, h, 46);
+    io::print_decimal(STDOUT_FILENO, account::first_due(i.pending));
+    end_line();
+}
+
+// 01's row: one replenishment at a time.
+fn one_pending() {
+    title(b"max_repl 1");
+    let p = sporadic(10, 40, 1);
+    let a = account::fresh(p, 0);
+    let b = run(p, a, 3, 3);
+    let c = block(p, b, 3);
+    let d = wake(p, c, 5);
+    let e = due(p, d, false, 39);
+    due(p, e, false, 40);
+}
+
+// 01's row: the budget is the period.
+fn budget_is_period() {
+    title(b"budget = period");
+    let p = sporadic(10, 10, 2);
+    let a = account::fresh(p, 0);
+    let b = run(p, a, 10, 10);
+    limit(p, b, 10);
+}
+
+// 01's row: preempted from 4 to 20.
+fn preempted() {
+    title(b"preempted");
+    let p = sporadic(10, 12, 2);
+    let a = account::fresh(p, 0);
+    let b = run(p, a, 4, 4);
+    let c = run(p, b, 6, 26);
+    limit(p, c, 26);
+}
+
+// 01's row: a wake and a block at one time schedule nothing.
+fn wake_and_block() {
+    title(b"wake and block");
+    let p = sporadic(10, 40, 2);
+    let a = account::fresh(p, 0);
+    let b = block(p, a, 0);
+    let c = wake(p, b, 7);
+    block(p, c, 7);
+}
+
+fn made(
+    capacity: u64,
+    used: u64,
+    activation: u64,
+    count: u8,
+    d: u64,
+    x: u64,
+    e: u64,
+    y: u64,
+) -> Account {
+    Account {
+        server: Server {
+            capacity: capacity,
+            used: used,
+            activation: activation,
+        },
+        pending: Pending {
+            count: count,
+            dues: [d, e, 0, 0, 0, 0, 0, 0],
+            amounts: [x, y, 0, 0, 0, 0, 0, 0],
+        },
+    }
+}
+
+// Instants next to each other, and accounts that no sound state has.
+fn edges() {
+    title(b"due one tick later is pending, due now comes back at once");
+    let p = sporadic(10, 10, 2);
+    let a = account::fresh(p, 0);
+    let b = run(p, a, 4, 9);
+    block(p, b, 9);
+    block(p, b, 10);
+    title(b"returned while blocked, and while at the upper priority");
+    let q = sporadic(10, 40, 2);
+    due(q, made(4, 0, 15, 1, 40, 6, 0, 0), true, 40);
+    due(q, made(4, 0, 15, 1, 40, 6, 0, 0), false, 40);
+    title(b"held at the budget; two due at one instant");
+    due(q, made(8, 0, 0, 1, 40, 6, 0, 0), true, 40);
+    due(q, made(0, 0, 0, 2, 40, 3, 40, 4), false, 40);
+    title(b"a wake with max_repl pending is at low");
+    wake(q, made(2, 0, 15, 2, 40, 4, 41, 4), 20);
+    title(b"a limit with nothing charged");
+    limit(q, made(0, 0, 15, 1, 40, 10, 0, 0), 20);
+}
+
+fn check(p: Parameters, a: Account, blocked: bool, start: u64, now: u64) {
+    if account::sound(p, a, blocked, start, now) {
+        io::write_all(STDOUT_FILENO, b"sound ");
+    } else {
+        io::write_all(STDOUT_FILENO, b"unsound ");
+    }
+}
+
+// Pairs on the two sides of each clause of soundness.
+fn numbers_sound() {
+    let p = sporadic(10, 40, 2);
+    title(b"sum is the budget");
+    check(p, made(4, 0, 15, 1, 40, 6, 0, 0), false, 0, 15);
+    check(p, made(5, 0, 15, 1, 40, 6, 0, 0), false, 0, 15);
+    check(p, made(3, 0, 15, 1, 40, 6, 0, 0), false, 0, 15);
+    check(
+        p,
+        made(18446744073709551615, 11, 15, 0, 0, 0, 0, 0),
+        false,
+        0,
+        30,
+    );
+    check(
+        p,
+        made(10, 18446744073709551615, 15, 0, 0, 0, 0, 0),
+        false,
+        0,
+        30,
+    );
+    end_line();
+    title(b"U of a blocked or low thread is 0");
+    check(p, made(2, 2, 15, 1, 40, 6, 0, 0), false, 0, 17);
+    check(p, made(2, 2, 15, 1, 40, 6, 0, 0), true, 0, 17);
+    check(p, made(1, 1, 15, 2, 40, 6, 41, 2), false, 0, 17);
+    check(p, made(0, 2, 15, 1, 40, 8, 0, 0), false, 0, 17);
+    end_line();
+    title(b"U is at most now - activation");
+    check(p, made(2, 2, 15, 1, 40, 6, 0, 0), false, 0, 16);
+    check(
+        p,
+        made(2, 2, 18446744073709551615, 1, 40, 6, 0, 0),
+        false,
+        0,
+        17,
+    );
+    end_line();
+    title(b"activation from start to now");
+    check(p, made(4, 0, 15, 1, 40, 6, 0, 0), false, 15, 15);
+    check(p, made(4, 0, 15, 1, 40, 6, 0, 0), false, 16, 16);
+    check(p, made(4, 0, 15, 1, 40, 6, 0, 0), false, 0, 14);
+    end_line();
+}
+
+fn entries_sound() {
+    let p = sporadic(10, 40, 2);
+    title(b"dues after now");
+    check(p, made(4, 0, 15, 1, 40, 6, 0, 0), true, 0, 39);
+    check(p, made(4, 0, 15, 1, 40, 6, 0, 0), true, 0, 40);
+    end_line();
+    title(b"dues before now + period, at upper before activation + period");
+    check(p, made(4, 0, 10, 1, 54, 6, 0, 0), true, 0, 15);
+    check(p, made(4, 0, 10, 1, 55, 6, 0, 0), true, 0, 15);
+    check(p, made(4, 0, 10, 1, 49, 6, 0, 0), false, 0, 15);
+    check(p, made(4, 0, 10, 1, 50, 6, 0, 0), false, 0, 15);
+    check(
+        p,
+        made(4, 0, 10, 1, 18446744073709551615, 6, 0, 0),
+        true,
+        0,
+        15,
+    );
+    end_line();
+    title(b"dues strictly rise");
+    check(p, made(2, 0, 15, 2, 40, 4, 41, 4), true, 0, 20);
+    check(p, made(2, 0, 15, 2, 40, 4, 40, 4), true, 0, 20);
+    check(p, made(2, 0, 15, 2, 41, 4, 40, 4), true, 0, 20);
+    end_line();
+    title(b"amounts at least 1");
+    check(p, made(4, 0, 15, 2, 40, 6, 41, 0), true, 0, 20);
+    end_line();
+    title(b"count at most max_repl, and at most the places");
+    check(
+        sporadic(10, 40, 1),
+        made(2, 0, 15, 2, 40, 4, 41, 4),
+        true,
+        0,
+        20,
+    );
+    check(
+        sporadic(10, 40, 255),
+        made(2, 0, 15, 9, 40, 4, 41, 4),
+        true,
+        0,
+        20,
+    );
+    check(
+        sporadic(10, 40, 255),
+        made(2, 0, 15, 255, 40, 4, 41, 4),
+        true,
+        0,
+        20,
+    );
+    end_line();
+    title(b"places past the count hold 0");
+    check(p, made(4, 0, 15, 1, 40, 6, 7, 0), false, 0, 15);
+    check(p, made(4, 0, 15, 1, 40, 6, 0, 7), false, 0, 15);
+    check(p, made(10, 0, 15, 0, 1, 0, 0, 0), false, 0, 15);
+    end_line();
+}
+
+fn main() {
+    replay();
+    one_pending();
+    budget_is_period();
+    preempted();
+    wake_and_block();
+    edges();
+    numbers_sound();
+    entries_sound();
+}

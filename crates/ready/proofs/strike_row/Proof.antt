@@ -1,0 +1,117 @@
+-- `ready::strike_row` meets its contract: the tests of the row, and then its threads.
+use Prim.Native.Nat.{ℕ, _+_, _-_, _≤_, _<_}
+use mathlib.Core.Path.{_≡_, sym, ap, _∙_}
+use mathlib.Core.Bool.{Bool, true}
+use mathlib.Core.List.{List}
+use native.Mathlib.Omega.{arith}
+use lib.ListN.{length, take, drop, length-drop}
+use lib.Seq.{take-all, drop-drop}
+use borrow.Author.Tests.{lt-leb, le-leb, not-true, not-false}
+use Rattle.records.specs.Tests.{all, zeros}
+use Rattle.records.proofs.TestLaws.{all-false, all-one, false-true}
+use Rattle.ready.specs.Lists.{size, members, unused}
+use Rattle.ready.specs.Steps.{strikes, struck, Struck, RowStruck}
+use borrow.Author.Needs.{needs}
+use Rattle.ready.proofs.strike_row.Statement.{statement}
+use Rattle.ready.proofs.strike_row.Tie as tie
+
+-- the parts that are tested are the row's own
+unused-part : (row : List ℕ) (n : ℕ) → n ≡ size row → take (length row - (n + 1)) (drop (n + 1) row) ≡ unused row
+unused-part row n e =
+    let k : 1 + size row ≡ n + 1 = omega arith in
+    take-all (length row - (n + 1)) (drop (n + 1) row) (simp length-drop (omega arith))
+    ∙ sym (drop-drop (size row) 1 row ∙ ap (λ (m : ℕ). drop m row) k)
+
+members-part : (row : List ℕ) (n : ℕ) → n ≡ size row → take (n + 1 - 1) (drop 1 row) ≡ members row
+members-part row n e = let k : n + 1 - 1 ≡ size row = omega arith in ap (λ (m : ℕ). take m (drop 1 row)) k
+
+tested : (p : ℕ) (row left : List ℕ) {left′ xs : List ℕ} {r : Bool} → size row ≤ 32 → all (zeros (unused row)) ≡ true → xs ≡ members row
+    → Struck p xs left left′ r → RowStruck p row left left′ r
+unfolding all
+tested p row left {left′} {xs} {r} h e m s =
+    record {
+      test = s .test ∙ ap (λ (t : List ℕ). strikes p t left) m ∙ sym (simp (le-leb (size row) 32 h, e, all-one));
+      rest = λ y. s .rest y ∙ ap (λ (t : List ℕ). struck t left) m;
+    }
+
+shared-slice-read-wide : tie.Need-shared-slice-read-wide
+shared-slice-read-wide c = search needs
+
+wide-requires : tie.Need-wide-requires
+wide-requires c κs = search needs
+
+returns : tie.Need-returns
+returns c =
+    let row = c .before .before .before .before .args .row .now in
+    let h : 32 < size row = omega (arith, c .before .wide .ensures) in
+    record { test = sym (all-false _ 0 (lt-leb _ _ h)); rest = λ e. false-true e }
+
+add-all-zero : tie.Need-add-all-zero
+add-all-zero c = search needs
+
+sub-all-zero : tie.Need-sub-all-zero
+sub-all-zero c = search needs
+
+part-all-zero-start : tie.Need-part-all-zero-start
+part-all-zero-start c = search needs
+
+part-all-zero-end : tie.Need-part-all-zero-end
+part-all-zero-end c = search needs
+
+all-zero-requires : tie.Need-all-zero-requires
+all-zero-requires c κs = search needs
+
+returns-2 : tie.Need-returns-2
+returns-2 c =
+    let b = c .before .before .before .before in
+    let a = b .before .before .before in
+    let u = unused-part (a .args .row .now) (b .wide .result) (b .wide .ensures) in
+    let z = c .before .all-zero .ensures ∙ ap (λ (t : List ℕ). all (zeros t)) u in
+    record { test = sym (all-false _ 1 (sym z ∙ not-true _ (c .if2 .taken))); rest = λ e. false-true e }
+
+add-strike : tie.Need-add-strike
+add-strike c = search needs
+
+sub-strike : tie.Need-sub-strike
+sub-strike c = search needs
+
+part-strike-start : tie.Need-part-strike-start
+part-strike-start c = search needs
+
+part-strike-end : tie.Need-part-strike-end
+part-strike-end c = search needs
+
+strike-requires : tie.Need-strike-requires
+strike-requires c κs = search needs
+
+returns-3 : tie.Need-returns-3
+returns-3 c =
+    let z = c .before .before .before .before in
+    let w = z .before .before .before .wide in
+    let a = z .before .before .before .before .before .before .args in
+    let u = unused-part (a .row .now) (w .result) (w .ensures) in
+    let m = members-part (a .row .now) (w .result) (w .ensures) in
+    let h : size (a .row .now) ≤ 32 = rw (w .ensures) at (z .before .before .if1 .left) in
+    let e : all (zeros (unused (a .row .now))) ≡ true =
+    sym (z .all-zero .ensures ∙ ap (λ (t : List ℕ). all (zeros t)) u) ∙ not-false _ (c .before .before .before .if2 .left) in
+    tested (a .p) (a .row .now) (a .left .now) h e m (c .strike .ensures)
+
+pub strike-row-spec : {M : Type 1} → statement M
+strike-row-spec =
+    tie.close
+    (tie.spec
+    shared-slice-read-wide
+    wide-requires
+    returns
+    add-all-zero
+    sub-all-zero
+    part-all-zero-start
+    part-all-zero-end
+    all-zero-requires
+    returns-2
+    add-strike
+    sub-strike
+    part-strike-start
+    part-strike-end
+    strike-requires
+    returns-3)

@@ -1,0 +1,38 @@
+-- What the private functions compute. No public contract cites a definition of this file.
+use mathlib.Core.Path.{_≡_}
+use mathlib.Core.Bool.{Bool, true, false, cond}
+use mathlib.Core.List.{List, [], _∷_, _++_}
+use Prim.Native.Nat.{ℕ, suc, _+_, _-_}
+use lib.ListN.{take, drop, set, getD}
+use lib.Dec.{leb, eqb}
+use Rattle.records.specs.Tests.{all, zeros}
+use Rattle.ready.specs.Lists.{size, members, unused}
+
+-- how many numbers stand before the first i
+unfoldable pub indexOf : ℕ → List ℕ → ℕ
+indexOf i [] = 0
+indexOf i (x ∷ xs) = cond (eqb x i) 0 (suc (indexOf i xs))
+
+-- the n numbers from `at` on without the first, a 0 at their end; the rest stays
+unfoldable pub closed : List ℕ → ℕ → ℕ → List ℕ
+closed l at n = take at l ++ (take (n - 1) (drop (at + 1) l) ++ (0 ∷ drop (at + n) l))
+
+-- each thread of xs in turn still has the place p in `left`, and is struck off
+unfoldable pub strikes : ℕ → List ℕ → List ℕ → Bool
+strikes p [] left = true
+strikes p (x ∷ xs) left = cond (eqb (getD left x 0) p) (strikes p xs (set left x 0)) false
+
+-- the threads of xs struck off
+unfoldable pub struck : List ℕ → List ℕ → List ℕ
+struck [] left = left
+struck (x ∷ xs) left = struck xs (set left x 0)
+
+-- the threads of xs struck off, where each has the place p
+pub record Struck (p : ℕ) (xs left left′ : List ℕ) (ok : Bool) : Type 0 where
+  pub test : ok ≡ strikes p xs left
+  pub rest : ok ≡ true → left′ ≡ struck xs left
+
+-- the same for the threads of a row, with the tests of the row itself
+pub record RowStruck (p : ℕ) (row left left′ : List ℕ) (ok : Bool) : Type 0 where
+  pub test : ok ≡ all (leb (size row) 32 ∷ all (zeros (unused row)) ∷ strikes p (members row) left ∷ [])
+  pub rest : ok ≡ true → left′ ≡ struck (members row) left

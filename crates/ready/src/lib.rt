@@ -1,0 +1,222 @@
+// The ordered lists of the priorities 1 to 32 and the occupancy word.
+//
+// All lists stand in one array of 32 rows of 33 bytes. The row of list p starts at (p - 1) * 33: the list's length, then
+// its thread numbers from head to tail, then zeros. The word has bit p - 1 set exactly when list p holds a thread.
+ghost use mathlib.Core.Path.{_≡_};
+ghost use Prim.Native.Nat.{_+_, _-_, _^_, _≤_, _<_};
+ghost use lib.ListN.{length, getD, take, drop, replicate};
+ghost use Rattle.records.specs.Tests.{all, zeros};
+ghost use Rattle.ready.specs.Lists.{start, headOf, appended, removed, moved};
+ghost use Rattle.ready.specs.Word.{occupancy, highestOf};
+ghost use Rattle.ready.specs.Rules.{Held, Joinable, Leavable, Movable};
+ghost use Rattle.ready.specs.Sound.{soundLists, soundRows};
+ghost use Rattle.ready.specs.Steps.{indexOf, closed, Struck, RowStruck};
+
+fn wide(x: u8) -> usize
+    ensures { λ r. ⌜ r ≡ x ⌝ }
+{
+    x as usize
+}
+
+// Where the row of list p starts.
+fn row_start(p: u8) -> usize
+    requires { ⌜ (1 ≤ p) × (p ≤ 32) ⌝ }
+    ensures { λ r. ⌜ r ≡ start p ⌝ }
+{
+    (wide(p) - 1) * 33
+}
+
+// The bit of list p.
+fn bit(p: u8) -> u32
+    requires { ⌜ (1 ≤ p) × (p ≤ 32) ⌝ }
+    ensures { λ r. ⌜ r ≡ 2 ^ (p - 1) ⌝ }
+{
+    1u32 << ((p - 1) as u32)
+}
+
+// Lists that hold no thread; their word is 0.
+pub fn empty() -> [u8; 1056]
+    ensures { λ r. ⌜ r ≡ replicate 1056 0 ⌝ }
+{
+    [0u8; 1056]
+}
+
+// The priority of the highest list that holds a thread, 0 where none does.
+pub fn highest(word: u32) -> u8
+    ensures { λ r. ⌜ r ≡ highestOf word ⌝ }
+{
+    (32 - u32::leading_zeros(word)) as u8
+}
+
+// The thread at the head of list p.
+pub fn head(lists: &[u8; 1056], p: u8) -> u8
+    requires { ⌜ Held p (now lists) ⌝ }
+    ensures { λ r. ⌜ r ≡ headOf p (now (lists .entry)) ⌝ }
+{
+    let at = row_start(p);
+    lists[at + 1]
+}
+
+// Thread i becomes the tail of list p; the answer is the word of the lists as they then are.
+pub fn append(lists: &mut [u8; 1056], word: u32, p: u8, i: u8) -> u32
+    requires { ⌜ Joinable word p (now lists) ⌝ }
+    ensures { λ r. ⌜ (now (lists .exit) ≡ appended p i (now (lists .entry))) × (r ≡ occupancy (appended p i (now (lists .entry)))) ⌝ }
+{
+    let at = row_start(p);
+    let n = lists[at];
+    lists[at + 1 + wide(n)] = i;
+    lists[at] = n + 1;
+    if n == 0 {
+        return word + bit(p);
+    }
+    word
+}
+
+// How many of the n numbers from `at` on stand before the first i.
+fn index_of(lists: &[u8; 1056], at: usize, n: usize, i: u8) -> usize
+    requires { ⌜ (at + n ≤ 1056) × (length (now lists) ≡ 1056) ⌝ }
+    ensures { λ r. ⌜ r ≡ indexOf i (take n (drop at (now (lists .entry)))) ⌝ }
+{
+    let mut j: usize = 0;
+    while j < n {
+        if lists[at + j] == i {
+            return j;
+        }
+        j = j + 1;
+    }
+    j
+}
+
+// The n numbers from `at` on without the first: the others move up, and the last place is 0.
+fn close(lists: &mut [u8; 1056], at: usize, n: usize)
+    requires { ⌜ (0 < n) × (at + n ≤ 1056) × (length (now lists) ≡ 1056) ⌝ }
+    ensures { λ _. ⌜ now (lists .exit) ≡ closed (now (lists .entry)) at n ⌝ }
+{
+    let mut j: usize = 0;
+    while j + 1 < n {
+        let x = lists[at + j + 1];
+        lists[at + j] = x;
+        j = j + 1;
+    }
+    lists[at + j] = 0;
+}
+
+// Thread i leaves list p, and the others keep their order; the answer is the word of the lists as they then are.
+pub fn remove(lists: &mut [u8; 1056], word: u32, p: u8, i: u8) -> u32
+    requires { ⌜ Leavable word p i (now lists) ⌝ }
+    ensures { λ r. ⌜ (now (lists .exit) ≡ removed p i (now (lists .entry))) × (r ≡ occupancy (removed p i (now (lists .entry)))) ⌝ }
+{
+    let at = row_start(p);
+    let n = lists[at];
+    let k = wide(n);
+    let j = index_of(lists, at + 1, k, i);
+    close(lists, at + 1 + j, k - j);
+    lists[at] = n - 1;
+    if n == 1 {
+        return word - bit(p);
+    }
+    word
+}
+
+// Thread i leaves list `from` and becomes the tail of list `to`, the same or another.
+pub fn move_to_tail(lists: &mut [u8; 1056], word: u32, i: u8, from: u8, to: u8) -> u32
+    requires { ⌜ Movable word i from to (now lists) ⌝ }
+    ensures { λ r. ⌜ (now (lists .exit) ≡ moved i from to (now (lists .entry))) × (r ≡ occupancy (moved i from to (now (lists .entry)))) ⌝ }
+{
+    let w = remove(lists, word, from, i);
+    append(lists, w, to, i)
+}
+
+// Whether all numbers are 0.
+fn all_zero(s: &[u8]) -> bool
+    ensures { λ r. ⌜ r ≡ all (zeros (now (s .entry))) ⌝ }
+{
+    let mut j: usize = 0;
+    while j < s.len() {
+        if s[j] != 0 {
+            return false;
+        }
+        j = j + 1;
+    }
+    true
+}
+
+// Strikes the threads of s off `left`, where each must still have the place p.
+fn strike(s: &[u8], p: u8, left: &mut [u8; 32]) -> bool
+    requires { ⌜ (1 ≤ p) × (length (now left) ≡ 32) ⌝ }
+    ensures { λ r. ⌜ Struck p (now (s .entry)) (now (left .entry)) (now (left .exit)) r ⌝ }
+{
+    let mut j: usize = 0;
+    while j < s.len() {
+        let i = wide(s[j]);
+        j = j + 1;
+        if 32 <= i {
+            return false;
+        }
+        if left[i] != p {
+            return false;
+        }
+        left[i] = 0;
+    }
+    true
+}
+
+// Whether the row of list p is in order and its threads, each with the place p, could be struck off `left`.
+fn strike_row(row: &[u8], p: u8, left: &mut [u8; 32]) -> bool
+    requires { ⌜ (1 ≤ p) × (length (now row) ≡ 33) × (length (now left) ≡ 32) ⌝ }
+    ensures { λ r. ⌜ RowStruck p (now (row .entry)) (now (left .entry)) (now (left .exit)) r ⌝ }
+{
+    let n = wide(row[0]);
+    if 32 < n {
+        return false;
+    }
+    if !all_zero(&row[n + 1..]) {
+        return false;
+    }
+    strike(&row[1..n + 1], p, left)
+}
+
+// Whether every list holds the threads that have its priority as their place, each once, and no other.
+// One pass over the rows strikes each thread off a copy of the places; at the end no place is left.
+fn sound_rows(lists: &[u8], places: [u8; 32]) -> bool
+    requires { ⌜ length (now lists) ≡ 1056 ⌝ }
+    ensures { λ r. ⌜ r ≡ soundRows (λ i. getD places i 0) (now (lists .entry)) ⌝ }
+{
+    let mut left = places;
+    let mut p: u8 = 0;
+    let mut at: usize = 0;
+    while p < 32 {
+        p = p + 1;
+        if !strike_row(&lists[at..at + 33], p, &mut left) {
+            return false;
+        }
+        at = at + 33;
+    }
+    all_zero(&left)
+}
+
+// The occupancy word of the lists.
+fn word_of(lists: &[u8; 1056]) -> u32
+    ensures { λ r. ⌜ r ≡ occupancy (now (lists .entry)) ⌝ }
+{
+    let mut word: u32 = 0;
+    let mut p: u8 = 0;
+    while p < 32 {
+        p = p + 1;
+        if lists[row_start(p)] != 0 {
+            word = word + bit(p);
+        }
+    }
+    word
+}
+
+// Whether lists and word are sound for the places: thread i must stand once in the list of the priority places[i], and in
+// no other; at 0 it must stand in none. Any contents are decided.
+pub fn sound(lists: [u8; 1056], word: u32, places: [u8; 32]) -> bool
+    ensures { λ r. ⌜ r ≡ soundLists (λ i. getD places i 0) word lists ⌝ }
+{
+    if !sound_rows(&lists, places) {
+        return false;
+    }
+    word == word_of(&lists)
+}

@@ -1,0 +1,73 @@
+-- The ranges of 01's section Numbers, and when parameters are in range.
+use mathlib.Core.Bool.{Bool, false}
+use mathlib.Core.List.{List, [], _∷_}
+use Prim.Native.Nat.{ℕ}
+use lib.Dec.{ltb, leb, eqb}
+use Rattle.records.specs.declared.Parameters.{Parameters}
+use Rattle.records.specs.Tests.{all, byPolicy}
+
+-- Numbers 1: at most 32 threads; thread numbers start at 0
+abbrev pub mostThreads : ℕ
+mostThreads = 32
+
+-- Numbers 2: priorities are 1 to 32, and 32 is the highest
+abbrev pub highestPriority : ℕ
+highestPriority = 32
+
+-- Numbers 3: the longest period, budget or quantum, in ticks
+abbrev pub mostTicks : ℕ
+mostTicks = 1000000000
+
+-- Numbers 4: the largest max_repl
+abbrev pub mostReplenishments : ℕ
+mostReplenishments = 8
+
+-- Numbers 5: the last time, 10^15
+abbrev pub lastTime : ℕ
+lastTime = 1000000000000000
+
+-- Numbers 6: how far an accepted event may be after the time now
+abbrev pub longestStep : ℕ
+longestStep = 1000000
+
+-- Numbers 10: SCHED_FIFO uses no parameter but the priority
+unfoldable pub fifoInRange : Parameters → Bool
+fifoInRange p = all (eqb (p .low) 0 ∷ eqb (p .«max_repl») 0 ∷ eqb (p .budget) 0 ∷ eqb (p .period) 0 ∷ [])
+
+-- Numbers 9 and 10: SCHED_RR has a quantum, kept in the field `budget`
+unfoldable pub rrInRange : Parameters → Bool
+rrInRange p =
+    all
+    (eqb (p .low) 0
+    ∷ eqb (p .«max_repl») 0
+    ∷ leb 1 (p .budget)
+    ∷ leb (p .budget) mostTicks
+    ∷ eqb (p .period) 0
+    ∷ [])
+
+-- Numbers 8: SCHED_SPORADIC has low below priority, max_repl up to `most`, and a budget of at most the period
+unfoldable pub sporadicInRange : ℕ → Parameters → Bool
+sporadicInRange most p =
+    all
+    (leb 1 (p .low)
+    ∷ ltb (p .low) (p .priority)
+    ∷ leb 1 (p .«max_repl»)
+    ∷ leb (p .«max_repl») most
+    ∷ leb 1 (p .budget)
+    ∷ leb (p .budget) (p .period)
+    ∷ leb (p .period) mostTicks
+    ∷ [])
+
+-- Status 7: parameters in range. The start flag has its own test where it is judged.
+unfoldable pub inRange : ℕ → Parameters → Bool
+inRange most p =
+    all
+    (leb 1 (p .priority)
+    ∷ leb (p .priority) highestPriority
+    ∷ leb (p .policy) 2
+    ∷ byPolicy (p .policy) (fifoInRange p) (rrInRange p) (sporadicInRange most p)
+    ∷ [])
+
+-- Status 7: no parameter other than 0, the start flag included
+unfoldable pub allZero : Parameters → Bool
+allZero p = all (eqb (p .policy) 0 ∷ eqb (p .priority) 0 ∷ eqb (p .flag) 0 ∷ fifoInRange p ∷ [])

@@ -1,0 +1,26 @@
+-- A condition is a list of tests: the same text is what the code computes and what the proofs use.
+use mathlib.Core.Bool.{Bool, true, false, cond}
+use mathlib.Core.List.{List, [], _∷_}
+use Prim.Native.Nat.{ℕ, zero, suc}
+use lib.Dec.{eqb}
+
+-- every test of the list is true
+unfoldable pub all : List Bool → Bool
+all [] = true
+all (b ∷ bs) = cond b (all bs) false
+
+-- the test is true of every number below n
+unfoldable pub below : ℕ → (ℕ → Bool) → Bool
+below zero f = true
+below (suc n) f = cond (below n f) (f n) false
+
+-- State 17: places that are not in use hold 0
+abbrev pub zeros : List ℕ → List Bool
+zeros [] = []
+zeros (x ∷ xs) = eqb x 0 ∷ zeros xs
+
+-- by the number of a policy: 0 is SCHED_FIFO, 1 SCHED_RR, and any other SCHED_SPORADIC
+abbrev pub byPolicy : {A : Type 0} → ℕ → A → A → A → A
+byPolicy zero fifo rr sporadic = fifo
+byPolicy (suc zero) fifo rr sporadic = rr
+byPolicy (suc (suc n)) fifo rr sporadic = sporadic
