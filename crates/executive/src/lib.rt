@@ -1,0 +1,1 @@
+// The executive: opening, events and their answers.

@@ -1,0 +1,228 @@
+-- What happens at a moment keeps a state sound.
+use Prim.Native.Nat.{ℕ, zero, suc, _+_, _-_, _*_, _≤_, _<_, min}
+use mathlib.Core.Bool.{Bool, true, false, cond, _&&_}
+use mathlib.Core.Path.{_≡_, refl, sym, ap, ap₂, _∙_, subst, subst⁻¹}
+use mathlib.Core.List.{List, [], _∷_}
+use lib.ListN.{length, getD, set}
+use lib.Dec.{ltb, leb, eqb}
+use native.Mathlib.Omega.{arith}
+use native.Mathlib.Decide.{ℕ-discrete}
+use borrow.Author.Tests.{eqb-true, eqb-false, eq-eqb, ne-eqb, lt-ltb, le-ltb, ltb-true, ltb-false, leb-false}
+use Rattle.records.specs.declared.Parameters.{Parameters}
+use Rattle.records.specs.declared.Header.{Header}
+use Rattle.records.specs.Tests.{byPolicy}
+use Rattle.records.proofs.TestLaws.{tests, All, cond-elim, policy-elim, cond-true, cond-false, false-true}
+use Rattle.account.specs.declared.Server.{Server}
+use Rattle.account.specs.declared.Pending.{Pending}
+use Rattle.account.specs.declared.Account.{Account}
+use Rattle.account.specs.declared.Outcome.{Outcome}
+use Rattle.account.specs.declared.Place.{Place}
+use Rattle.account.specs.declared.Place.the-variants.{Stays, Low, LowThenUpper, Upper}
+use Rattle.account.specs.Account.{atUpper, isUpper}
+use Rattle.account.specs.Rules.{limitReached, firstIsDue, returning}
+use Rattle.account.specs.Sound.{runsUpper}
+use Rattle.account.proofs.RuleLaws.{due-some}
+use Rattle.account.proofs.SoundLaws.{AccountSound, none-sound, Returned, return-sound}
+use Rattle.account.proofs.SoundLaws.Returned.{stays, raised}
+use Rattle.ready.specs.Lists.{moved}
+use Rattle.ready.specs.Word.{occupancy}
+use Rattle.ready.proofs.Soundness.{ListsSound}
+use Rattle.ready.proofs.SoundLaws.{withPlace, sound-same, move-sound}
+use Rattle.state.specs.declared.Thread.{Thread}
+use Rattle.state.specs.declared.State.{State}
+use Rattle.state.specs.State.{noServer, noThread, threadAt, rowAt, pendingAt, accountAt, assigned, placeOf, place}
+use Rattle.state.proofs.SoundLaws.{noPending, ThreadSound, SoundFrom, Sound, sizeTests, SporadicTests}
+use Rattle.state.proofs.SoundLaws.ThreadSound.{absent, fifo, rr, sporadic}
+use Rattle.moments.specs.Running.{level, head, idles}
+use Rattle.moments.specs.Changes.{withThread, withLists, withServer, withAccount, sentTo, withOutcome}
+use Rattle.moments.specs.Moments.{quantumEnded, limitsOf, limits, replenish, replenishBelow, fire}
+use Rattle.moments.proofs.ChangeLaws.{withBound, changed}
+use Rattle.moments.proofs.ChargeLaws.{by-zero, by-one, by-two}
+
+-- other bounds that are the same below 32
+pub bounds-same : (lo lo′ : ℕ → ℕ) (s : State) → SoundFrom lo s → ((i : ℕ) → i < 32 → lo′ i ≡ lo i) → SoundFrom lo′ s
+bounds-same lo lo′ s h e = record { sizes = h .sizes; each = λ i l. rw (e i l) (h .each i l); lists = h .lists; timed = h .timed }
+
+-- a thread whose first entry is not due: its dues are after now
+not-due : (start now lo : ℕ) (b : Bool) (t : Thread) (q : Pending) → ThreadSound start now lo b t q → firstIsDue now q ≡ false → ThreadSound start now now b t q
+not-due start now lo b t q (absent n e f) d = absent n e f
+not-due start now lo b t q (fifo n z h l v f) d = fifo n z h l v f
+not-due start now lo b t q (rr n z h l v f) d = rr n z h l v f
+not-due start now lo b t q (sporadic n z h l v) d =
+    sporadic n z h l (none-sound start now lo (runsUpper (t .blocked) (t .parameters) (record { server = t .server; pending = q })) (t .parameters) (record { server = t .server; pending = q }) v d)
+
+-- thread i's turn: its dues are after now when it is done
+module _ (lo : ℕ → ℕ) (s : State) (h : SoundFrom lo s) (i : ℕ) (l : i < 32) (f : s .now ≤ lo i + 1) where
+  skipped : firstIsDue (s .now) (pendingAt s i) ≡ false → SoundFrom (withBound lo i (s .now)) s
+  skipped d =
+      record {
+        sizes = h .sizes;
+        each = λ j m. each j m (ℕ-discrete j i);
+        lists = h .lists;
+        timed = h .timed;
+      }
+    where
+      each : (j : ℕ) → j < 32 → Dec (j ≡ i) → ThreadSound (s .header .start) (s .now) (withBound lo i (s .now) j) (ltb j (s .header .n)) (threadAt s j) (pendingAt s j)
+      each j m (yes e) =
+          subst⁻¹ (λ (k : ℕ). ThreadSound (s .header .start) (s .now) (withBound lo i (s .now) k) (ltb k (s .header .n)) (threadAt s k) (pendingAt s k)) e
+          (rw (eq-eqb i i refl) (not-due (s .header .start) (s .now) (lo i) (ltb i (s .header .n)) (threadAt s i) (pendingAt s i) (h .each i l) d))
+      each j m (no e) = rw (ne-eqb j i e) (h .each j m)
+
+  -- what comes back, for a sporadic thread
+  module _ (n : ltb i (s .header .n) ≡ true) (z : threadAt s i .parameters .policy ≡ 2) (g : All (SporadicTests (threadAt s i .parameters))) (a : threadAt s i .left ≡ 0)
+      (v : AccountSound (s .header .start) (s .now) (lo i) (runsUpper (threadAt s i .blocked) (threadAt s i .parameters) (accountAt s i)) (threadAt s i .parameters) (accountAt s i)) where
+    -- a sporadic thread's place
+    place-by : (c : ℕ) (y : Server) → placeOf (withServer y (threadAt s i)) c
+        ≡ cond (threadAt s i .blocked) 0 (cond (atUpper (threadAt s i .parameters) (y .capacity) c) (threadAt s i .parameters .priority) (threadAt s i .parameters .low))
+    place-by c y = ap (λ (k : ℕ). cond (threadAt s i .blocked) 0 k) (by-two (threadAt s i .parameters .policy) _ _ _ z)
+
+    put : (o : Outcome) (x : Place) (b : Bool) → o .place ≡ x
+        → AccountSound (s .header .start) (s .now) (s .now) b (threadAt s i .parameters) (o .account) → runsUpper (threadAt s i .blocked) (threadAt s i .parameters) (o .account) ≡ b
+        → ListsSound (withPlace (place s) i (placeOf (withServer (o .account .server) (threadAt s i)) (o .account .pending .count)))
+        (occupancy (sentTo x i (threadAt s i .parameters) (s .lists))) (sentTo x i (threadAt s i .parameters) (s .lists))
+        → SoundFrom (withBound lo i (s .now)) (withOutcome i o s)
+    put o x b p q u m =
+        subst⁻¹ (λ (y : Place). SoundFrom (withBound lo i (s .now)) (withLists (sentTo y i (threadAt s i .parameters) (s .lists)) (withAccount i (threadAt s i) (o .account) s))) p
+        (changed lo s h i l (threadAt s i) (o .account) (s .now) (omega (tests, q .duePlaces .0)) (omega (tests, q .amountPlaces .0))
+        (sporadic n z g a (subst⁻¹ (λ (y : Bool). AccountSound (s .header .start) (s .now) (s .now) y (threadAt s i .parameters) (o .account)) u q))
+        refl (sentTo x i (threadAt s i .parameters) (s .lists)) m)
+
+    -- it stays: its place is what it was
+    same-place : (b x y : Bool) (j k : ℕ) → cond b false x ≡ cond b false y → cond b 0 (cond x j k) ≡ cond b 0 (cond y j k)
+    same-place true x y j k e = refl
+    same-place false x y j k e = ap (λ (c : Bool). cond c j k) e
+
+    unmoved : (o : Outcome) → runsUpper (threadAt s i .blocked) (threadAt s i .parameters) (o .account) ≡ runsUpper (threadAt s i .blocked) (threadAt s i .parameters) (accountAt s i)
+        → ListsSound (withPlace (place s) i (placeOf (withServer (o .account .server) (threadAt s i)) (o .account .pending .count))) (occupancy (s .lists)) (s .lists)
+    unmoved o u =
+        subst (λ (w : ℕ). ListsSound (withPlace (place s) i (placeOf (withServer (o .account .server) (threadAt s i)) (o .account .pending .count))) w (s .lists)) (h .lists .agrees)
+        (sound-same (place s) (withPlace (place s) i (placeOf (withServer (o .account .server) (threadAt s i)) (o .account .pending .count))) (s .word) (s .lists)
+        (λ j m. go j (ℕ-discrete j i)) (h .lists))
+      where
+        go : (j : ℕ) → Dec (j ≡ i) → withPlace (place s) i (placeOf (withServer (o .account .server) (threadAt s i)) (o .account .pending .count)) j ≡ place s j
+        go j (yes e) =
+            cond-true (eqb j i) _ _ (eq-eqb j i e)
+            ∙ place-by (o .account .pending .count) (o .account .server)
+            ∙ same-place (threadAt s i .blocked) _ _ (threadAt s i .parameters .priority) (threadAt s i .parameters .low) u
+            ∙ sym (place-by (getD (s .counts) i 0) (threadAt s i .server))
+            ∙ ap (place s) (sym e)
+        go j (no e) = cond-false (eqb j i) _ _ (ne-eqb j i e)
+
+    back : (o : Outcome) → Returned (s .header .start) (s .now) (threadAt s i .blocked) (threadAt s i .parameters) (accountAt s i) o → SoundFrom (withBound lo i (s .now)) (withOutcome i o s)
+    back o (stays p q u) = put o Stays (runsUpper (threadAt s i .blocked) (threadAt s i .parameters) (accountAt s i)) p q u (unmoved o u)
+    back o (raised p w u q r) =
+        put o Upper true p q (cond-false (threadAt s i .blocked) false _ w ∙ r)
+        (subst⁻¹ (λ (y : ℕ). ListsSound (withPlace (place s) i y) (occupancy (moved i (threadAt s i .parameters .low) (threadAt s i .parameters .priority) (s .lists)))
+        (moved i (threadAt s i .parameters .low) (threadAt s i .parameters .priority) (s .lists)))
+        (place-by (o .account .pending .count) (o .account .server) ∙ cond-false (threadAt s i .blocked) 0 _ w ∙ cond-true _ (threadAt s i .parameters .priority) (threadAt s i .parameters .low) r)
+        (move-sound (place s) (s .word) (s .lists) (h .lists) i l (threadAt s i .parameters .low) (threadAt s i .parameters .priority) (omega (tests, g)) (omega (tests, g))
+        (place-by (getD (s .counts) i 0) (threadAt s i .server) ∙ cond-false (threadAt s i .blocked) 0 _ w ∙ cond-false _ (threadAt s i .parameters .priority) (threadAt s i .parameters .low) u)
+        (omega (tests, g)) (omega (tests, g))))
+
+    returned : SoundFrom (withBound lo i (s .now)) (withOutcome i (returning (s .now) (threadAt s i .blocked) (threadAt s i .parameters) (accountAt s i)) s)
+    returned =
+        back (returning (s .now) (threadAt s i .blocked) (threadAt s i .parameters) (accountAt s i))
+        (return-sound (s .header .start) (s .now) (lo i) (threadAt s i .blocked) (threadAt s i .parameters) (accountAt s i) v f (omega (tests, h .sizes)) (omega (tests, g)))
+
+  pub replenish-sound : SoundFrom (withBound lo i (s .now)) (replenish i s)
+  unfolding replenish
+  replenish-sound = cond-elim (SoundFrom (withBound lo i (s .now))) (firstIsDue (s .now) (pendingAt s i)) _ s (λ e. due e (h .each i l)) skipped
+    where
+      due : firstIsDue (s .now) (pendingAt s i) ≡ true → ThreadSound (s .header .start) (s .now) (lo i) (ltb i (s .header .n)) (threadAt s i) (pendingAt s i)
+          → SoundFrom (withBound lo i (s .now)) (withOutcome i (returning (s .now) (threadAt s i .blocked) (threadAt s i .parameters) (accountAt s i)) s)
+      due e (absent n t q) = absurd (omega (arith, due-some (s .now) (threadAt s i .parameters) (accountAt s i) e, ap (λ (q : Pending). q .count) q))
+      due e (fifo n z g a v q) = absurd (omega (arith, due-some (s .now) (threadAt s i .parameters) (accountAt s i) e, ap (λ (q : Pending). q .count) q))
+      due e (rr n z g a v q) = absurd (omega (arith, due-some (s .now) (threadAt s i .parameters) (accountAt s i) e, ap (λ (q : Pending). q .count) q))
+      due e (sporadic n z g a v) = returned n z g a v
+
+-- ---- what a moment's work keeps
+
+module _ {A : Type 0} (f : State → A) (fo : (i : ℕ) (o : Outcome) (s : State) → f (withOutcome i o s) ≡ f s)
+    (fq : (p i : ℕ) (t : Thread) (s : State) → f (quantumEnded p i t s) ≡ f s) where
+  pub keeps-replenish : (i : ℕ) (s : State) → f (replenish i s) ≡ f s
+  unfolding replenish
+  keeps-replenish i s =
+      cond-elim (λ (u : State). f u ≡ f s) (firstIsDue (s .now) (pendingAt s i)) _ s
+      (λ e. fo i (returning (s .now) (threadAt s i .blocked) (threadAt s i .parameters) (accountAt s i)) s) (λ e. refl)
+
+  pub keeps-below : (n : ℕ) (s : State) → f (replenishBelow n s) ≡ f s
+  unfolding replenishBelow
+  keeps-below zero s = refl
+  keeps-below (suc n) s = keeps-replenish n (replenishBelow n s) ∙ keeps-below n s
+
+  pub keeps-limits : (s : State) → f (limits s) ≡ f s
+  unfolding limits
+  keeps-limits s =
+      let t = threadAt s (head s) in
+      cond-elim (λ (u : State). f u ≡ f s) (idles s) s (limitsOf (level s) (head s) t s) (λ e. refl)
+      (λ e. policy-elim (λ (u : State). f u ≡ f s) (t .parameters .policy) _ _ _
+      (λ c. refl)
+      (λ c. cond-elim (λ (u : State). f u ≡ f s) (eqb (t .left) 0) (quantumEnded (level s) (head s) t s) s (λ d. fq (level s) (head s) t s) (λ d. refl))
+      (λ c. cond-elim (λ (u : State). f u ≡ f s) (eqb (level s) (t .parameters .priority) && eqb (t .server .capacity) 0) _ s (λ d. fo (head s) (limitReached (s .now) (t .parameters) (accountAt s (head s))) s) (λ d. refl)))
+
+  pub keeps-fire : (s : State) → f (fire s) ≡ f s
+  unfolding fire
+  keeps-fire s = keeps-below (s .header .n) (limits s) ∙ keeps-limits s
+
+pub now-below : (n : ℕ) (s : State) → replenishBelow n s .now ≡ s .now
+now-below n s = keeps-below (λ (u : State). u .now) (λ i o u. refl) (λ p i t u. refl) n s
+
+pub now-fire : (s : State) → fire s .now ≡ s .now
+now-fire s = keeps-fire (λ (u : State). u .now) (λ i o u. refl) (λ p i t u. refl) s
+
+pub header-fire : (s : State) → fire s .header ≡ s .header
+header-fire s = keeps-fire (λ (u : State). u .header) (λ i o u. refl) (λ p i t u. refl) s
+
+-- ---- all that is due comes back, by thread number
+
+-- the bounds when the threads below n had their turn
+abbrev pub turns : ℕ → ℕ → (ℕ → ℕ) → ℕ → ℕ
+turns now n lo i = cond (ltb i n) now (lo i)
+
+pub below-sound : (lo : ℕ → ℕ) (n : ℕ) (s : State) → n ≤ 32 → SoundFrom lo s → ((i : ℕ) → s .now ≤ lo i + 1) → SoundFrom (turns (s .now) n lo) (replenishBelow n s)
+unfolding replenishBelow
+below-sound lo zero s l h f = bounds-same lo (turns (s .now) 0 lo) s h (λ i m. cond-false (ltb i 0) _ _ (le-ltb i 0 (omega arith)))
+below-sound lo (suc n) s l h f =
+    let u = replenishBelow n s in
+    let e = now-below n s in
+    bounds-same (withBound (turns (s .now) n lo) n (u .now)) (turns (s .now) (suc n) lo) (replenish n u)
+    (replenish-sound (turns (s .now) n lo) u (below-sound lo n s (omega arith) h f) n (omega arith) (bound e)) (λ i m. go i (ℕ-discrete i n) e)
+  where
+    bound : replenishBelow n s .now ≡ s .now → replenishBelow n s .now ≤ turns (s .now) n lo n + 1
+    bound e = rw (le-ltb n n (omega arith)) (omega (arith, f n))
+
+    go : (i : ℕ) → Dec (i ≡ n) → replenishBelow n s .now ≡ s .now → turns (s .now) (suc n) lo i ≡ withBound (turns (s .now) n lo) n (replenishBelow n s .now) i
+    go i (yes c) e = cond-true (ltb i (suc n)) _ _ (lt-ltb i (suc n) (omega arith)) ∙ sym e ∙ sym (cond-true (eqb i n) _ _ (eq-eqb i n c))
+    go i (no c) e = ap (λ (b : Bool). cond b (s .now) (lo i)) (same (ltb i n) refl) ∙ sym (cond-false (eqb i n) _ _ (ne-eqb i n c))
+      where
+        same : (b : Bool) → ltb i n ≡ b → ltb i (suc n) ≡ ltb i n
+        same true q = lt-ltb i (suc n) (omega (tests, q)) ∙ sym q
+        same false q = le-ltb i (suc n) (omega (arith, ltb-false i n q, c)) ∙ sym q
+
+-- from N on there is nothing to come back
+settled : (lo : ℕ → ℕ) (s : State) → SoundFrom (turns (s .now) (s .header .n) lo) s → Sound s
+settled lo s h = record { sizes = h .sizes; each = λ i l. go i (ltb i (s .header .n)) refl (h .each i l); lists = h .lists; timed = h .timed }
+  where
+    from : (i x : ℕ) → ltb i (s .header .n) ≡ false → ThreadSound (s .header .start) (s .now) x (ltb i (s .header .n)) (threadAt s i) (pendingAt s i)
+        → ThreadSound (s .header .start) (s .now) (s .now) (ltb i (s .header .n)) (threadAt s i) (pendingAt s i)
+    from i x q (absent n e f) = absent n e f
+    from i x q (fifo n z g a v f) = false-true (sym q ∙ n)
+    from i x q (rr n z g a v f) = false-true (sym q ∙ n)
+    from i x q (sporadic n z g a v) = false-true (sym q ∙ n)
+
+    go : (i : ℕ) (b : Bool) → ltb i (s .header .n) ≡ b
+        → ThreadSound (s .header .start) (s .now) (turns (s .now) (s .header .n) lo i) (ltb i (s .header .n)) (threadAt s i) (pendingAt s i)
+        → ThreadSound (s .header .start) (s .now) (s .now) (ltb i (s .header .n)) (threadAt s i) (pendingAt s i)
+    go i true q x =
+        subst (λ (k : ℕ). ThreadSound (s .header .start) (s .now) k (ltb i (s .header .n)) (threadAt s i) (pendingAt s i)) (cond-true (ltb i (s .header .n)) (s .now) (lo i) q) x
+    go i false q x = from i (turns (s .now) (s .header .n) lo i) q x
+
+-- replenishing makes a state sound whose dues are at or after now
+pub settle-sound : (lo : ℕ → ℕ) (s : State) → SoundFrom lo s → ((i : ℕ) → s .now ≤ lo i + 1) → Sound (replenishBelow (s .header .n) s)
+settle-sound lo s h f =
+    let n = s .header .n in
+    let u = replenishBelow n s in
+    settled lo u
+    (subst⁻¹ (λ (x : ℕ). SoundFrom (turns x (u .header .n) lo) u) (now-below n s)
+    (subst⁻¹ (λ (x : Header). SoundFrom (turns (s .now) (x .n) lo) u) (keeps-below (λ (v : State). v .header) (λ i o v. refl) (λ p i t v. refl) n s)
+    (below-sound lo n s (omega (tests, h .sizes)) h f)))

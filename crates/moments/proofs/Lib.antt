@@ -1,0 +1,7 @@
+-- Laws of the passing of time over the state.
+pub mod ChangeLaws
+pub mod DueLaws
+pub mod ChargeLaws
+pub mod LimitLaws
+pub mod FireLaws
+pub mod MomentLaws

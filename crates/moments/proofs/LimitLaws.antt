@@ -1,0 +1,311 @@
+-- The limit and the end of a quantum, at their instant.
+use Prim.Native.Nat.{ℕ, zero, suc, _+_, _-_, _*_, _≤_, _<_, min}
+use mathlib.Core.Bool.{Bool, true, false, cond, _&&_}
+use mathlib.Core.Path.{_≡_, refl, sym, ap, ap₂, _∙_, subst, subst⁻¹}
+use mathlib.Core.List.{List, [], _∷_}
+use lib.ListN.{length, take, getD, set, length-set}
+use lib.Seq.{getD-set-same, getD-set-other, set-set}
+use lib.Dec.{ltb, leb, eqb}
+use native.Mathlib.Omega.{arith}
+use native.Mathlib.Decide.{ℕ-discrete}
+use borrow.Author.Tests.{eqb-true, eqb-false, eq-eqb, ne-eqb, lt-ltb, ltb-true}
+use Rattle.records.specs.declared.Parameters.{Parameters}
+use Rattle.records.specs.Tests.{byPolicy}
+use Rattle.records.proofs.TestLaws.{tests, All, cond-true, cond-false, false-true}
+use Rattle.account.specs.declared.Server.{Server}
+use Rattle.account.specs.declared.Pending.{Pending}
+use Rattle.account.specs.declared.Account.{Account}
+use Rattle.account.specs.declared.Outcome.{Outcome}
+use Rattle.account.specs.declared.Place.{Place}
+use Rattle.account.specs.declared.Place.the-variants.{Stays, Low, LowThenUpper, Upper}
+use Rattle.account.specs.Account.{atUpper, isUpper, firstDue}
+use Rattle.account.specs.Rules.{charged, dueNow, limitReached}
+use Rattle.account.specs.Sound.{runsUpper}
+use Rattle.account.proofs.SoundLaws.{AccountSound, charge-sound, upper-room, Sent, limit-once-sound, limit-later-sound}
+use Rattle.ready.specs.Lists.{moved}
+use Rattle.ready.specs.Word.{occupancy}
+use Rattle.ready.proofs.Soundness.{ListsSound}
+use Rattle.ready.proofs.SoundLaws.{withPlace, sound-same, move-sound}
+use Rattle.state.specs.declared.Thread.{Thread}
+use Rattle.state.specs.declared.State.{State}
+use Rattle.state.specs.State.{noServer, noThread, threadAt, rowAt, pendingAt, accountAt, assigned, placeOf, place}
+use Rattle.state.specs.Sound.{totals}
+use Rattle.state.proofs.SoundLaws.{noPending, ThreadSound, SoundFrom, Sound, sizeTests, RrTests, SporadicTests, row-length}
+use Rattle.state.proofs.SoundLaws.ThreadSound.{absent, fifo, rr, sporadic}
+use Rattle.moments.specs.Running.{level, head, idles, ran, charge, limitOf, limit, next}
+use Rattle.moments.specs.Changes.{withThread, withLists, withServer, withLeft, withAccount, sentTo, withOutcome}
+use Rattle.moments.specs.Moments.{quantumEnded, limitsOf, limits}
+use Rattle.moments.proofs.ChangeLaws.{withBound, totals-set, changed-at, thread-account}
+use Rattle.moments.proofs.ChargeLaws.{Runs, runs, Within, by-zero, by-one, by-two, upper-at, ran-upper, ran-low, first-bound, wait-thread, lasts}
+
+-- ---- nothing happens where nothing is used up
+
+and-yes : (a b : Bool) → a ≡ true → b ≡ true → (a && b) ≡ true
+and-yes true b p q = q
+and-yes false b p q = p
+
+and-no : (a b : Bool) → (a ≡ true → b ≡ false) → (a && b) ≡ false
+and-no true b f = f refl
+and-no false b f = refl
+
+low-lt : (p : Parameters) → All (SporadicTests p) → p .low < p .priority
+low-lt p g = omega (tests, g)
+
+no-limit : (p : ℕ) (t : Thread) (q : Pending) → t .parameters .policy ≡ 2 → All (SporadicTests (t .parameters)) → assigned t (q .count) ≡ p
+    → (eqb p (t .parameters .priority) && eqb (t .server .capacity) 0) ≡ false
+no-limit p t q z g a =
+    and-no (eqb p (t .parameters .priority)) (eqb (t .server .capacity) 0)
+    (λ e. ne-eqb (t .server .capacity) 0 (λ c. omega (arith, upper-room (t .parameters) (record { server = t .server; pending = q }) (upper-at p t q z (low-lt (t .parameters) g) a e) .0)))
+
+-- a sound thread in the list of its assigned priority is at no limit
+thread-none : (start now lo p i : ℕ) (b : Bool) (t : Thread) (q : Pending) (s : State) → ThreadSound start now lo b t q → assigned t (q .count) ≡ p
+    → limitsOf p i t s ≡ s
+thread-none start now lo p i b t q s (absent n e f) a = by-zero (t .parameters .policy) _ _ _ (ap (λ (x : Thread). x .parameters .policy) e)
+thread-none start now lo p i b t q s (fifo n z g l v f) a = by-zero (t .parameters .policy) _ _ _ z
+thread-none start now lo p i b t q s (rr n z g l v f) a =
+    by-one (t .parameters .policy) _ _ _ z ∙ cond-false (eqb (t .left) 0) _ _ (ne-eqb (t .left) 0 (λ e. omega (tests, l)))
+thread-none start now lo p i b t q s (sporadic n z g l v) a =
+    by-two (t .parameters .policy) _ _ _ z ∙ cond-false (eqb p (t .parameters .priority) && eqb (t .server .capacity) 0) _ _ (no-limit p t q z g a)
+
+-- so in a sound state nothing happens
+pub limits-none : (lo : ℕ → ℕ) (s : State) → SoundFrom lo s → limits s ≡ s
+unfolding limits
+limits-none lo s h = go (idles s) refl
+  where
+    go : (b : Bool) → idles s ≡ b → cond b s (limitsOf (level s) (head s) (threadAt s (head s)) s) ≡ s
+    go true e = refl
+    go false e =
+        let r = runs lo s h e in
+        thread-none (s .header .start) (s .now) (lo (head s)) (level s) (head s) (ltb (head s) (s .header .n)) (threadAt s (head s)) (pendingAt s (head s)) s
+        (h .each (head s) (r .small)) (r .stands)
+
+-- ---- the running thread after its last tick
+
+-- the state after k ticks of a running thread
+abbrev pub ranState : ℕ → State → State
+ranState k s =
+    record {
+      header = s .header;
+      now = s .now + k;
+      idle = s .idle;
+      word = s .word;
+      threads = set (s .threads) (head s) (ran (level s) k (threadAt s (head s)));
+      counts = s .counts;
+      dues = s .dues;
+      amounts = s .amounts;
+      lists = s .lists;
+    }
+
+pub charge-runs : (k : ℕ) (s : State) → idles s ≡ false → charge k s ≡ ranState k s
+charge-runs k s e =
+    λ x. record {
+      header = s .header;
+      now = s .now + k;
+      idle = i x;
+      word = s .word;
+      threads = t x;
+      counts = s .counts;
+      dues = s .dues;
+      amounts = s .amounts;
+      lists = s .lists;
+    }
+  where
+    i : s .idle + cond (idles s) k 0 ≡ s .idle
+    i = rw e (omega arith)
+
+    t : cond (idles s) (s .threads) (set (s .threads) (head s) (ran (level s) k (threadAt s (head s)))) ≡ set (s .threads) (head s) (ran (level s) k (threadAt s (head s)))
+    t = cond-false (idles s) _ _ e
+
+-- what is left of soundness when the running thread has used up what it runs on: everything but that thread
+module _ (lo lo′ : ℕ → ℕ) (k : ℕ) (s : State) (h : SoundFrom lo s) (e : idles s ≡ false)
+    (d : (i : ℕ) → i < 32 → 0 < getD (s .counts) i 0 → lo′ i < getD (rowAt i (s .dues)) 0 0) (top : s .now + k ≤ 1000000000000000) where
+  run : Runs s
+  run = runs lo s h e
+
+  sizes : All (sizeTests (ranState k s))
+  sizes = rw (length-set (s .threads) (head s) (ran (level s) k (threadAt s (head s)))) (omega (tests, h .sizes))
+
+  there : threadAt (ranState k s) (head s) ≡ ran (level s) k (threadAt s (head s))
+  there = getD-set-same (s .threads) (head s) (ran (level s) k (threadAt s (head s))) noThread (omega (tests, h .sizes, run .small))
+
+  others : (j : ℕ) → j < 32 → (j ≡ head s → ⊥)
+      → ThreadSound (s .header .start) (s .now + k) (lo′ j) (ltb j (s .header .n)) (threadAt (ranState k s) j) (pendingAt s j)
+  others j m c =
+      rw (getD-set-other (s .threads) (head s) j (ran (level s) k (threadAt s (head s))) noThread c)
+      (wait-thread (s .header .start) (s .now) (s .now + k) (lo j) (lo′ j) (ltb j (s .header .n)) (threadAt s j) (pendingAt s j) (h .each j m) (omega arith) (d j m))
+
+  -- the lists for a new place of the running thread
+  relisted : (p : ℕ) (l′ : List ℕ) → ListsSound (withPlace (place s) (head s) p) (occupancy l′) l′
+      → ListsSound (withPlace (place (ranState k s)) (head s) p) (occupancy l′) l′
+  relisted p l′ q = sound-same (withPlace (place s) (head s) p) (withPlace (place (ranState k s)) (head s) p) (occupancy l′) l′ (λ j m. go j (ℕ-discrete j (head s))) q
+    where
+      go : (j : ℕ) → Dec (j ≡ head s) → withPlace (place (ranState k s)) (head s) p j ≡ withPlace (place s) (head s) p j
+      go j (yes c) = rw (eq-eqb j (head s) c)
+      go j (no c) =
+          rw (ne-eqb j (head s) c)
+          (ap (λ (x : Thread). placeOf x (getD (s .counts) j 0)) (getD-set-other (s .threads) (head s) j (ran (level s) k (threadAt s (head s))) noThread c))
+
+  -- a sound thread and account in its place make the state sound
+  again : (t : Thread) (a : Account) (x : ℕ) → length (a .pending .dues) ≡ 8 → length (a .pending .amounts) ≡ 8
+      → ThreadSound (s .header .start) (s .now + k) x (ltb (head s) (s .header .n)) (withServer (a .server) t) (a .pending)
+      → t .total ≡ threadAt s (head s) .total + k
+      → (l′ : List ℕ) → ListsSound (withPlace (place s) (head s) (placeOf (withServer (a .server) t) (a .pending .count))) (occupancy l′) l′
+      → SoundFrom (withBound lo′ (head s) x) (withLists l′ (withAccount (head s) t a (ranState k s)))
+  again t a x m n ok g l′ q =
+      changed-at lo′ (ranState k s) sizes (head s) (run .small) t a x m n ok others
+      (rw (set-set (s .threads) (head s) (ran (level s) k (threadAt s (head s))) (withServer (a .server) t))
+      (omega (arith, h .timed, g, totals-set (s .threads) (head s) (withServer (a .server) t) (omega (tests, h .sizes, run .small)))))
+      l′ (relisted _ l′ q)
+
+  standing : place s (head s) ≡ level s
+  standing = cond-false (threadAt s (head s) .blocked) 0 _ (run .awake) ∙ run .stands
+
+  limits-ran : limits (ranState k s) ≡ limitsOf (level s) (head s) (ran (level s) k (threadAt s (head s))) (ranState k s)
+  unfolding limits
+  limits-ran = cond-false (idles s) _ _ e ∙ ap (λ (t : Thread). limitsOf (level s) (head s) t (ranState k s)) there
+
+  -- the end of a quantum
+  module _ (n : ltb (head s) (s .header .n) ≡ true) (z : threadAt s (head s) .parameters .policy ≡ 1) (g : All (RrTests (threadAt s (head s) .parameters)))
+      (v : threadAt s (head s) .server ≡ noServer) (f : pendingAt s (head s) ≡ noPending) (c : threadAt s (head s) .left ≡ k) where
+    t′ : Thread
+    t′ = ran (level s) k (threadAt s (head s))
+
+    pub quantum-sound : SoundFrom (withBound lo′ (head s) (lo′ (head s))) (limits (ranState k s))
+    unfolding t′
+    quantum-sound =
+        subst⁻¹ (SoundFrom (withBound lo′ (head s) (lo′ (head s)))) is
+        (again (withLeft (t′ .parameters .budget) t′) (record { server = t′ .server; pending = pendingAt s (head s) }) (lo′ (head s))
+        (row-length (head s) (s .dues) (run .small) (omega (tests, h .sizes))) (row-length (head s) (s .amounts) (run .small) (omega (tests, h .sizes)))
+        (rr n z g (omega (tests, g)) (by-one (t′ .parameters .policy) _ _ _ z ∙ v) f) refl (moved (head s) (level s) (level s) (s .lists))
+        (subst⁻¹ (λ (p : ℕ). ListsSound (withPlace (place s) (head s) p) (occupancy (moved (head s) (level s) (level s) (s .lists))) (moved (head s) (level s) (level s) (s .lists))) here
+        (move-sound (place s) (s .word) (s .lists) (h .lists) (head s) (run .small) (level s) (level s) (run .range .0) (run .range .1) standing (run .range .0) (run .range .1))))
+      where
+        is : limits (ranState k s)
+            ≡ withLists (moved (head s) (level s) (level s) (s .lists))
+            (withAccount (head s) (withLeft (t′ .parameters .budget) t′) (record { server = t′ .server; pending = pendingAt s (head s) }) (ranState k s))
+        is =
+            limits-ran
+            ∙ by-one (t′ .parameters .policy) _ _ _ z
+            ∙ cond-true (eqb (t′ .left) 0) _ _ (eq-eqb (t′ .left) 0 (by-one (t′ .parameters .policy) _ _ _ z ∙ omega arith))
+            ∙ ap (withLists (moved (head s) (level s) (level s) (s .lists))) (thread-account (head s) (withLeft (t′ .parameters .budget) t′) (ranState k s))
+
+        -- an RR thread's list is that of its priority
+        here : placeOf (withServer (t′ .server) (withLeft (t′ .parameters .budget) t′)) (pendingAt s (head s) .count) ≡ level s
+        here =
+            cond-false (threadAt s (head s) .blocked) 0 _ (run .awake)
+            ∙ by-one (t′ .parameters .policy) _ _ _ z
+            ∙ sym (by-one (threadAt s (head s) .parameters .policy) _ _ _ z)
+            ∙ run .stands
+
+  -- the limit of a sporadic thread
+  module _ (n : ltb (head s) (s .header .n) ≡ true) (z : threadAt s (head s) .parameters .policy ≡ 2) (g : All (SporadicTests (threadAt s (head s) .parameters)))
+      (l : threadAt s (head s) .left ≡ 0)
+      (v : AccountSound (s .header .start) (s .now) (lo (head s)) (runsUpper (threadAt s (head s) .blocked) (threadAt s (head s) .parameters) (accountAt s (head s)))
+      (threadAt s (head s) .parameters) (accountAt s (head s)))
+      (up : eqb (level s) (threadAt s (head s) .parameters .priority) ≡ true) (c : threadAt s (head s) .server .capacity ≡ k) (low : lo′ (head s) ≤ s .now + k) where
+    i : ℕ
+    i = head s
+
+    p : Parameters
+    p = threadAt s (head s) .parameters
+
+    -- the thread and the account at the limit
+    ended : Thread
+    ended = ran (level s) k (threadAt s (head s))
+
+    spent : Account
+    spent = record { server = charged k (threadAt s (head s) .server); pending = pendingAt s (head s) }
+
+    upper : isUpper p (accountAt s i) ≡ true
+    unfolding i p
+    upper = upper-at (level s) (threadAt s (head s)) (pendingAt s (head s)) z (low-lt (threadAt s (head s) .parameters) g) (run .stands) up
+
+    spent-sound : AccountSound (s .header .start) (s .now + k) (lo′ i) true p spent
+    unfolding i p spent
+    spent-sound =
+        charge-sound (s .header .start) (s .now) (lo (head s)) p (accountAt s i) k (lo′ i)
+        (subst (λ (b : Bool). AccountSound (s .header .start) (s .now) (lo (head s)) b p (accountAt s i)) (cond-false (threadAt s (head s) .blocked) false _ (run .awake) ∙ upper) v)
+        (omega arith) (first-bound (pendingAt s i) (lo′ i) (d i (run .small)))
+
+    account-is : accountAt (ranState k s) i ≡ spent
+    unfolding i spent
+    account-is =
+        ap (λ (t : Thread). with-server (t .server)) there ∙ ap with-server (ran-upper (level s) k (threadAt s (head s)) z up)
+      where
+        with-server : Server → Account
+        with-server x = record { server = x; pending = pendingAt s (head s) }
+
+    limits-is : limits (ranState k s)
+        ≡ withLists (sentTo (limitReached (s .now + k) p spent .place) i p (s .lists)) (withAccount i ended (limitReached (s .now + k) p spent .account) (ranState k s))
+    unfolding i p ended spent
+    limits-is =
+        limits-ran
+        ∙ by-two (ended .parameters .policy) _ _ _ z
+        ∙ cond-true (eqb (level s) (p .priority) && eqb (ended .server .capacity) 0) _ _ both
+        ∙ ap (λ (a : Account). withOutcome i (limitReached (s .now + k) p a) (ranState k s)) account-is
+        ∙ ap (λ (t : Thread). withLists (sentTo (limitReached (s .now + k) p spent .place) i (t .parameters) (s .lists)) (withAccount i t (limitReached (s .now + k) p spent .account) (ranState k s))) there
+      where
+        none : threadAt s (head s) .server .capacity - k ≡ 0
+        none = omega arith
+
+        both : (eqb (level s) (p .priority) && eqb (ended .server .capacity) 0) ≡ true
+        both =
+            and-yes (eqb (level s) (p .priority)) (eqb (ended .server .capacity) 0) up
+            (eq-eqb (ended .server .capacity) 0 (ap (λ (x : Server). x .capacity) (ran-upper (level s) k (threadAt s (head s)) z up) ∙ none))
+
+    -- wherever the account's rule sends it
+    sent-sound : (b : Bool) (x : Place) (o : Outcome) → Sent (s .header .start) (s .now + k) (lo′ i) b p x o
+        → ListsSound (withPlace (place s) i (cond b (p .priority) (p .low))) (occupancy (sentTo x i p (s .lists))) (sentTo x i p (s .lists))
+        → SoundFrom (withBound lo′ i (lo′ i)) (withLists (sentTo (o .place) i p (s .lists)) (withAccount i ended (o .account) (ranState k s)))
+    unfolding i p ended
+    sent-sound b x o q m =
+        subst⁻¹ (λ (y : Place). SoundFrom (withBound lo′ i (lo′ i)) (withLists (sentTo y i p (s .lists)) (withAccount i ended (o .account) (ranState k s)))) (q .place)
+        (again ended (o .account) (lo′ i) (omega (tests, q .sound .duePlaces .0)) (omega (tests, q .sound .amountPlaces .0))
+        (sporadic n z g (by-two (ended .parameters .policy) _ _ _ z ∙ l)
+        (subst⁻¹ (λ (y : Bool). AccountSound (s .header .start) (s .now + k) (lo′ i) y p (o .account)) (cond-false (threadAt s (head s) .blocked) false _ (run .awake) ∙ q .upper) (q .sound)))
+        refl (sentTo x i p (s .lists))
+        (subst⁻¹ (λ (y : ℕ). ListsSound (withPlace (place s) i y) (occupancy (sentTo x i p (s .lists))) (sentTo x i p (s .lists))) here m))
+      where
+        here : placeOf (withServer (o .account .server) ended) (o .account .pending .count) ≡ cond b (p .priority) (p .low)
+        here =
+            cond-false (threadAt s (head s) .blocked) 0 _ (run .awake)
+            ∙ by-two (ended .parameters .policy) _ _ _ z
+            ∙ ap (λ (y : Bool). cond y (p .priority) (p .low)) (q .upper)
+
+    at-upper : level s ≡ p .priority
+    unfolding p
+    at-upper = eqb-true (level s) (threadAt s (head s) .parameters .priority) up
+
+    -- to the tail of the low list, and from there to that of the upper one
+    to-low : ListsSound (withPlace (place s) i (p .low)) (occupancy (moved i (p .priority) (p .low) (s .lists))) (moved i (p .priority) (p .low) (s .lists))
+    unfolding i p
+    to-low =
+        move-sound (place s) (s .word) (s .lists) (h .lists) i (run .small) (p .priority) (p .low) (omega (tests, g)) (omega (tests, g)) (standing ∙ at-upper) (omega (tests, g)) (omega (tests, g))
+
+    to-upper : ListsSound (withPlace (place s) i (p .priority)) (occupancy (sentTo LowThenUpper i p (s .lists))) (sentTo LowThenUpper i p (s .lists))
+    unfolding i p
+    to-upper =
+        sound-same (withPlace (withPlace (place s) i (p .low)) i (p .priority)) (withPlace (place s) i (p .priority)) _ _ (λ j m. go j (eqb j i))
+        (move-sound (withPlace (place s) i (p .low)) _ _ to-low i (run .small) (p .low) (p .priority) (omega (tests, g)) (omega (tests, g)) (cond-true (eqb i i) _ _ (eq-eqb i i refl))
+        (omega (tests, g)) (omega (tests, g)))
+      where
+        go : (j : ℕ) (b : Bool) → cond b (p .priority) (place s j) ≡ cond b (p .priority) (cond b (p .low) (place s j))
+        go j true = refl
+        go j false = refl
+
+    pub limit-sound : SoundFrom (withBound lo′ (head s) (lo′ (head s))) (limits (ranState k s))
+    unfolding i p spent
+    limit-sound = subst⁻¹ (SoundFrom (withBound lo′ (head s) (lo′ (head s)))) limits-is (by (dueNow (s .now + k) p (spent .server)) refl)
+      where
+        room : (0 < threadAt s (head s) .server .capacity) × (pendingAt s (head s) .count < p .«max_repl»)
+        room = upper-room p (accountAt s i) upper
+
+        by : (b : Bool) → dueNow (s .now + k) p (spent .server) ≡ b
+            → SoundFrom (withBound lo′ i (lo′ i))
+            (withLists (sentTo (limitReached (s .now + k) p spent .place) i p (s .lists)) (withAccount i ended (limitReached (s .now + k) p spent .account) (ranState k s)))
+        by true e =
+            sent-sound true LowThenUpper (limitReached (s .now + k) p spent)
+            (limit-once-sound (s .header .start) (s .now + k) p (lo′ i) spent spent-sound (omega (arith, room .0)) (room .1) (omega (tests, h .sizes)) e) to-upper
+        by false e =
+            sent-sound false Low (limitReached (s .now + k) p spent)
+            (limit-later-sound (s .header .start) (s .now + k) p (lo′ i) spent spent-sound (omega (arith, room .0)) (room .1) low (omega (tests, g)) (omega arith) e) to-low

@@ -1,0 +1,52 @@
+-- What happens at a moment, and the passing of time.
+use Prim.Native.Nat.{ℕ, zero, suc}
+use mathlib.Core.Bool.{Bool, cond, _&&_}
+use lib.Dec.{eqb}
+use Rattle.records.specs.Tests.{byPolicy}
+use Rattle.account.specs.Rules.{limitReached, firstIsDue, returning}
+use Rattle.ready.specs.Lists.{moved}
+use Rattle.passing.specs.Time.{Clock, advance}
+use Rattle.state.specs.declared.Thread.{Thread}
+use Rattle.state.specs.declared.State.{State}
+use Rattle.state.specs.State.{threadAt, pendingAt, accountAt}
+use Rattle.moments.specs.Running.{level, head, idles, charge, next}
+use Rattle.moments.specs.Changes.{withThread, withLists, withLeft, withOutcome}
+
+-- Passing 7: the quantum has ended: the tail of its list p, with a full quantum
+abbrev pub quantumEnded : ℕ → ℕ → Thread → State → State
+quantumEnded p i t s = withLists (moved i p p (s .lists)) (withThread i (withLeft (t .parameters .budget) t) s)
+
+-- Passing 6 and 7: the limit or the end of the quantum of thread i, which runs in list p
+abbrev pub limitsOf : ℕ → ℕ → Thread → State → State
+limitsOf p i t s =
+    byPolicy (t .parameters .policy) s
+    (cond (eqb (t .left) 0) (quantumEnded p i t s) s)
+    (cond (eqb p (t .parameters .priority) && eqb (t .server .capacity) 0)
+    (withOutcome i (limitReached (s .now) (t .parameters) (accountAt s i)) s)
+    s)
+
+unfoldable pub limits : State → State
+limits s = cond (idles s) s (limitsOf (level s) (head s) (threadAt s (head s)) s)
+
+-- Passing 8: thread i's replenishments that are due now
+unfoldable pub replenish : ℕ → State → State
+replenish i s =
+    cond (firstIsDue (s .now) (pendingAt s i))
+    (withOutcome i (returning (s .now) (threadAt s i .blocked) (threadAt s i .parameters) (accountAt s i)) s)
+    s
+
+-- Passing 8: by thread number, of the threads below n
+unfoldable pub replenishBelow : ℕ → State → State
+replenishBelow zero s = s
+replenishBelow (suc n) s = replenish n (replenishBelow n s)
+
+-- Passing 5 to 8: what happens at a moment, in this order
+unfoldable pub fire : State → State
+fire s = replenishBelow (s .header .n) (limits s)
+
+abbrev pub clock : Clock State
+clock = record { now = λ s. s .now; next = next; charge = charge; fire = fire }
+
+-- Passing 1: the state at the time t
+abbrev pub passed : State → ℕ → State
+passed s t = advance clock s t

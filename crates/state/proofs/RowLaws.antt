@@ -1,0 +1,47 @@
+-- A thread's places, read and written one by one.
+use Prim.Native.Nat.{ℕ, _+_, _*_, _<_}
+use mathlib.Core.Path.{_≡_, sym, ap, _∙_}
+use mathlib.Core.List.{List, _++_, append-assoc, append-nil}
+use lib.ListN.{length, take, drop, getD, set, replicate, length-drop}
+use lib.Seq.{paste, paste-suc, take-all, getD-take, getD-drop, length-take-le}
+use native.Mathlib.Numerals.{add-one}
+use native.Mathlib.Omega.{arith}
+use Rattle.state.specs.State.{rowAt, withRow}
+
+-- the first j places are read, and the others are still 0
+abbrev pub readTo : ℕ → List ℕ → ℕ → List ℕ
+readTo i xs j = paste (replicate 8 0) 0 (rowAt i xs) j
+
+-- the first j places are written
+abbrev pub writtenTo : ℕ → List ℕ → List ℕ → ℕ → List ℕ
+writtenTo i row xs j = paste xs (i * 8) row j
+
+module _ (i : ℕ) (xs : List ℕ) (h : i < 32) (n : length xs ≡ 256) where
+  pub row-length : length (rowAt i xs) ≡ 8
+  row-length = length-take-le 8 (drop (i * 8) xs) (omega (arith, length-drop (i * 8) xs))
+
+  pub read-step : (row : List ℕ) (j : ℕ) → j < 8 → row ≡ readTo i xs j → set row j (getD xs (i * 8 + j) 0) ≡ readTo i xs (j + 1)
+  read-step row j l e =
+      let z : j ≡ 0 + j = omega arith in
+      let g : getD xs (i * 8 + j) 0 ≡ getD (rowAt i xs) j 0 = sym (getD-take 8 (drop (i * 8) xs) j 0 l ∙ getD-drop (i * 8) xs j 0) in
+      ap (λ (r : List ℕ). set r j (getD xs (i * 8 + j) 0)) e
+      ∙ ap (λ (x : ℕ). set (readTo i xs j) j x) g
+      ∙ ap (λ (k : ℕ). set (readTo i xs j) k (getD (rowAt i xs) j 0)) z
+      ∙ paste-suc (replicate 8 0) 0 (rowAt i xs) j 0 (omega arith) (omega (arith, row-length))
+      ∙ ap (readTo i xs) (sym (add-one j))
+
+  pub read-end : readTo i xs 8 ≡ rowAt i xs
+  read-end = append-nil (take 8 (rowAt i xs)) ∙ take-all 8 (rowAt i xs) (omega (arith, row-length))
+
+  module _ (row : List ℕ) (m : length row ≡ 8) where
+    pub write-step : (ys : List ℕ) (j : ℕ) → j < 8 → ys ≡ writtenTo i row xs j → set ys (i * 8 + j) (getD row j 0) ≡ writtenTo i row xs (j + 1)
+    write-step ys j l e =
+        ap (λ (r : List ℕ). set r (i * 8 + j) (getD row j 0)) e
+        ∙ paste-suc xs (i * 8) row j 0 (omega arith) (omega arith)
+        ∙ ap (writtenTo i row xs) (sym (add-one j))
+
+    pub write-end : writtenTo i row xs 8 ≡ withRow i row xs
+    unfolding withRow
+    write-end =
+        append-assoc (take (i * 8) xs) (take 8 row) (drop (i * 8 + 8) xs)
+        ∙ ap (λ (r : List ℕ). take (i * 8) xs ++ (r ++ drop (i * 8 + 8) xs)) (take-all 8 row (omega arith))

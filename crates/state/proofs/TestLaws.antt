@@ -1,0 +1,77 @@
+-- Laws of tests: every number below n, the last test of a list, the policies.
+use Prim.Native.Nat.{ℕ, zero, suc, _+_, _≤_, _<_}
+use mathlib.Core.Bool.{Bool, true, false, not}
+use mathlib.Core.Path.{_≡_, refl, sym, _∙_}
+use mathlib.Core.List.{List, [], _∷_}
+use lib.Dec.{eqb}
+use native.Mathlib.Numerals.{add-one}
+use native.Mathlib.Omega.{arith}
+use borrow.Author.Tests.{eq-eqb, ne-eqb, eqb-true, eqb-false, not-true, not-false}
+use Rattle.records.specs.Tests.{all, below, byPolicy}
+use Rattle.records.proofs.TestLaws.{All, false-true, all-one, below-at}
+
+-- the answer r of a function that decides t, in `if !r`
+pub decided-true : {t : Bool} (r : Bool) → r ≡ t → not r ≡ false → t ≡ true
+decided-true r e f = sym e ∙ not-false r f
+
+pub decided-false : {t : Bool} (r : Bool) → r ≡ t → not r ≡ true → t ≡ false
+decided-false r e f = sym e ∙ not-true r f
+
+-- one test after the other
+infixr 3 _and_
+pub _and_ : {A B : Type 0} → A → B → A × B
+p and q = (p, q)
+
+-- where all tests of a list but the last one hold, the last one decides
+abbrev pub butLast : List Bool → List Bool
+butLast [] = []
+butLast (b ∷ []) = []
+butLast (b ∷ c ∷ bs) = b ∷ butLast (c ∷ bs)
+
+abbrev pub last : List Bool → Bool
+last [] = true
+last (b ∷ []) = b
+last (b ∷ c ∷ bs) = last (c ∷ bs)
+
+pub all-last : (bs : List Bool) → All (butLast bs) → all bs ≡ last bs
+unfolding all
+all-last [] h = refl
+all-last (b ∷ []) h = all-one b
+all-last (true ∷ c ∷ bs) h = all-last (c ∷ bs) (h .1)
+all-last (false ∷ c ∷ bs) h = false-true (h .0)
+
+-- a test of every number below i, and then of i
+pub below-next : (i : ℕ) (f : ℕ → Bool) → below i f ≡ true → f i ≡ true → below (i + 1) f ≡ true
+unfolding below
+below-next i f e g = rw (add-one, below) (rw (e, below) g)
+
+pub below-false : (n : ℕ) (f : ℕ → Bool) (i : ℕ) → i < n → f i ≡ false → below n f ≡ false
+below-false n f i h e = go (below n f) refl
+  where
+    go : (b : Bool) → below n f ≡ b → b ≡ false
+    go true q = sym (below-at n f q i h) ∙ e
+    go false q = refl
+
+-- the policies that are not sporadic, and those that are not RR
+pub policy-low : {A : Type 0} (c : ℕ) (x y : A) → c < 2 → byPolicy c x x y ≡ x
+policy-low zero x y h = refl
+policy-low (suc zero) x y h = refl
+policy-low (suc (suc c)) x y h = absurd (omega arith)
+
+pub policy-sporadic : {A : Type 0} (c : ℕ) (x y z : A) → 2 ≤ c → byPolicy c x y z ≡ z
+policy-sporadic zero x y z h = absurd (omega arith)
+policy-sporadic (suc zero) x y z h = absurd (omega arith)
+policy-sporadic (suc (suc c)) x y z h = refl
+
+pub policy-not-rr : {A : Type 0} (c : ℕ) (x y : A) → (c ≡ 1 → ⊥) → byPolicy c x y x ≡ x
+policy-not-rr zero x y h = refl
+policy-not-rr (suc zero) x y h = absurd (h refl)
+policy-not-rr (suc (suc c)) x y h = refl
+
+-- two comparisons that say the same
+pub eqb-same : (a b c d : ℕ) → (a ≡ b → c ≡ d) → (c ≡ d → a ≡ b) → eqb a b ≡ eqb c d
+eqb-same a b c d f g = go (eqb a b) refl
+  where
+    go : (x : Bool) → eqb a b ≡ x → x ≡ eqb c d
+    go true e = sym (eq-eqb c d (f (eqb-true a b e)))
+    go false e = sym (ne-eqb c d (λ h. eqb-false a b e (g h)))

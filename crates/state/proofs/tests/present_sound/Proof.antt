@@ -1,0 +1,71 @@
+-- `state::tests::present_sound` meets its contract.
+use Prim.Native.Nat.{ℕ}
+use mathlib.Core.Bool.{Bool}
+use mathlib.Core.Path.{sym, _∙_}
+use mathlib.Core.List.{List, [], _∷_}
+use lib.Dec.{eqb}
+use borrow.Author.Tests.{eq-eqb, ne-eqb}
+use Rattle.records.specs.Tests.{all}
+use Rattle.records.specs.Ranges.{mostReplenishments, inRange}
+use Rattle.records.proofs.TestLaws.{all-false}
+use Rattle.account.specs.declared.Pending.{Pending}
+use Rattle.state.specs.declared.Thread.{Thread}
+use Rattle.state.specs.Sound.{leftTests, accountTest, presentTest}
+use Rattle.state.proofs.TestLaws.{decided-true, decided-false, _and_, all-last}
+use borrow.Author.Needs.{needs}
+use Rattle.state.proofs.tests.present_sound.Statement.{statement}
+use Rattle.state.proofs.tests.present_sound.Tie as tie
+
+abbrev presentTests : ℕ → ℕ → Thread → Pending → List Bool
+presentTests start now t q =
+    inRange mostReplenishments (t .parameters)
+    ∷ eqb (t .parameters .flag) 0
+    ∷ all (leftTests t)
+    ∷ accountTest start now t q
+    ∷ []
+
+in-range-requires : tie.Need-in-range-requires
+in-range-requires c κs = search needs
+
+returns : tie.Need-returns
+unfolding presentTest
+returns c = sym (all-false _ 0 (decided-false _ (c .before .in-range .ensures) (c .if1 .taken)))
+
+returns-2 : tie.Need-returns-2
+unfolding presentTest
+returns-2 c = sym (all-false _ 1 (ne-eqb _ _ (c .if2 .taken)))
+
+left-holds-requires : tie.Need-left-holds-requires
+left-holds-requires c κs = search needs
+
+returns-3 : tie.Need-returns-3
+unfolding presentTest
+returns-3 c = sym (all-false _ 2 (decided-false _ (c .before .left-holds .ensures) (c .if3 .taken)))
+
+account-holds-requires : tie.Need-account-holds-requires
+account-holds-requires c κs = search needs
+
+returns-4 : tie.Need-returns-4
+unfolding presentTest
+returns-4 c =
+    let b = c .before .before .before in
+    let a = b .before .before .before .before .before .args in
+    c .account-holds .ensures
+    ∙ sym
+    (all-last (presentTests (a .start) (a .now) (a .t) (a .q))
+    (decided-true _ (b .before .before .before .in-range .ensures) (b .before .before .if1 .left)
+    and eq-eqb _ _ (b .if2 .left)
+    and decided-true _ (c .before .before .left-holds .ensures) (c .before .if3 .left)
+    and tt))
+
+pub present-sound-spec : {M : Type 1} → statement M
+present-sound-spec =
+    tie.close
+    (tie.spec
+    in-range-requires
+    returns
+    returns-2
+    left-holds-requires
+    returns-3
+    account-holds-requires
+    returns-4)

@@ -1,0 +1,3 @@
+-- What a reader of `state` must believe.
+pub mod State
+pub mod Sound

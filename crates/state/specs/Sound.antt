@@ -1,0 +1,85 @@
+-- When a state is sound (State 5 to 17), as tests that compute.
+use Prim.Native.Nat.{ℕ, _+_}
+use mathlib.Core.Bool.{Bool, false, cond, not}
+use mathlib.Core.List.{List, [], _∷_, _++_}
+use lib.ListN.{length}
+use lib.Dec.{ltb, leb, eqb}
+use Rattle.records.specs.Tests.{all, below, zeros, byPolicy}
+use Rattle.records.specs.Ranges.{mostThreads, mostReplenishments, lastTime, inRange, allZero}
+use Rattle.account.specs.declared.Server.{Server}
+use Rattle.account.specs.declared.Pending.{Pending}
+use Rattle.account.specs.declared.Account.{Account}
+use Rattle.account.specs.Sound.{soundAt}
+use Rattle.ready.specs.Sound.{soundLists}
+use Rattle.state.specs.declared.Thread.{Thread}
+use Rattle.state.specs.declared.State.{State}
+use Rattle.state.specs.State.{threadAt, pendingAt, place}
+
+-- State 17: a thread that is not sporadic has no account
+abbrev pub noAccountTests : Server → Pending → List Bool
+noAccountTests s q =
+    eqb (s .capacity) 0 ∷ eqb (s .used) 0 ∷ eqb (s .activation) 0 ∷ eqb (q .count) 0 ∷ all (zeros (q .dues)) ∷ all (zeros (q .amounts)) ∷ []
+
+-- State 15 and 17: the quantum left is 1 to quantum for RR, and 0 for any other
+abbrev pub leftTests : Thread → List Bool
+leftTests t =
+    byPolicy (t .parameters .policy)
+    (eqb (t .left) 0 ∷ [])
+    (leb 1 (t .left) ∷ leb (t .left) (t .parameters .budget) ∷ [])
+    (eqb (t .left) 0 ∷ [])
+
+-- State 10 to 14, 17: a sporadic thread's account is sound, and any other has none
+abbrev pub accountTest : ℕ → ℕ → Thread → Pending → Bool
+accountTest start now t q =
+    byPolicy (t .parameters .policy)
+    (all (noAccountTests (t .server) q))
+    (all (noAccountTests (t .server) q))
+    (soundAt start now (t .blocked) (t .parameters) (record { server = t .server; pending = q }))
+
+-- State 6, 10 to 15, 17: a thread below N
+unfoldable pub presentTest : ℕ → ℕ → Thread → Pending → Bool
+presentTest start now t q =
+    all
+    (inRange mostReplenishments (t .parameters)
+    ∷ eqb (t .parameters .flag) 0
+    ∷ all (leftTests t)
+    ∷ accountTest start now t q
+    ∷ [])
+
+-- State 17: a place from N on holds nothing
+unfoldable pub absentTest : Thread → Pending → Bool
+absentTest t q =
+    all
+    (allZero (t .parameters) ∷ not (t .blocked) ∷ eqb (t .total) 0 ∷ eqb (t .left) 0 ∷ all (noAccountTests (t .server) q) ∷ [])
+
+abbrev pub threadTest : State → ℕ → Bool
+threadTest s i =
+    cond (ltb i (s .header .n))
+    (presentTest (s .header .start) (s .now) (threadAt s i) (pendingAt s i))
+    (absentTest (threadAt s i) (pendingAt s i))
+
+-- State 16: the sum of all run times
+abbrev pub totals : List Thread → ℕ
+totals [] = 0
+totals (t ∷ ts) = t .total + totals ts
+
+-- State 6 to 8, 16: N, the times, every thread, the lists and the word, and the run times.
+-- The arrays have the lengths that their types say.
+abbrev pub soundTests : State → List Bool
+soundTests s =
+    leb 1 (s .header .n)
+    ∷ leb (s .header .n) mostThreads
+    ∷ leb (s .header .start) (s .now)
+    ∷ leb (s .now) lastTime
+    ∷ eqb (length (s .threads)) 32
+    ∷ eqb (length (s .counts)) 32
+    ∷ eqb (length (s .dues)) 256
+    ∷ eqb (length (s .amounts)) 256
+    ∷ below 32 (threadTest s)
+    ∷ soundLists (place s) (s .word) (s .lists)
+    ∷ eqb (s .header .start + totals (s .threads) + s .idle) (s .now)
+    ∷ []
+
+-- State 5: a state is sound
+unfoldable pub soundState : State → Bool
+soundState s = all (soundTests s)

@@ -1,0 +1,55 @@
+-- The state (State 1 to 4) and its parts.
+use Prim.Native.Nat.{ℕ, _+_, _*_}
+use mathlib.Core.Bool.{Bool, false, cond}
+use mathlib.Core.List.{List, _++_}
+use lib.ListN.{length, take, drop, getD, set}
+use Rattle.records.specs.declared.Parameters.{Parameters}
+use Rattle.records.specs.declared.Header.{Header}
+use Rattle.records.specs.Tests.{byPolicy}
+use Rattle.account.specs.declared.Server.{Server}
+use Rattle.account.specs.declared.Pending.{Pending}
+use Rattle.account.specs.declared.Account.{Account}
+use Rattle.account.specs.Account.{entries, atUpper}
+use Rattle.state.specs.declared.Thread.{Thread}
+use Rattle.state.specs.declared.State.{State}
+
+-- no parameters, no account, no thread: what a place past N holds
+abbrev pub noParameters : Parameters
+noParameters = record { policy = 0; priority = 0; low = 0; «max_repl» = 0; flag = 0; budget = 0; period = 0 }
+
+abbrev pub noServer : Server
+noServer = record { capacity = 0; used = 0; activation = 0 }
+
+abbrev pub noThread : Thread
+noThread = record { parameters = noParameters; blocked = false; total = 0; left = 0; server = noServer }
+
+-- State 2: thread i
+abbrev pub threadAt : State → ℕ → Thread
+threadAt s i = getD (s .threads) i noThread
+
+-- thread i's places among those of all threads, and the array with other numbers there
+abbrev pub rowAt : ℕ → List ℕ → List ℕ
+rowAt i xs = take entries (drop (i * entries) xs)
+
+unfoldable pub withRow : ℕ → List ℕ → List ℕ → List ℕ
+withRow i row xs = take (i * entries) xs ++ (row ++ drop (i * entries + entries) xs)
+
+-- State 2: the pending replenishments and the account of thread i
+abbrev pub pendingAt : State → ℕ → Pending
+pendingAt s i = record { count = getD (s .counts) i 0; dues = rowAt i (s .dues); amounts = rowAt i (s .amounts) }
+
+abbrev pub accountAt : State → ℕ → Account
+accountAt s i = record { server = threadAt s i .server; pending = pendingAt s i }
+
+-- State 9: the assigned priority of a thread with so many replenishments pending
+abbrev pub assigned : Thread → ℕ → ℕ
+assigned t count =
+    byPolicy (t .parameters .policy) (t .parameters .priority) (t .parameters .priority)
+    (cond (atUpper (t .parameters) (t .server .capacity) count) (t .parameters .priority) (t .parameters .low))
+
+-- State 7: the list in which a thread stands: that of its assigned priority, and none (0) where it is blocked
+abbrev pub placeOf : Thread → ℕ → ℕ
+placeOf t count = cond (t .blocked) 0 (assigned t count)
+
+abbrev pub place : State → ℕ → ℕ
+place s i = placeOf (threadAt s i) (getD (s .counts) i 0)

@@ -1,0 +1,206 @@
+// The executive's state, by value, and when it is sound.
+ghost use mathlib.Core.Path.{_≡_};
+ghost use Prim.Native.Nat.{ℕ, _+_, _<_};
+ghost use mathlib.Core.List.{[]};
+ghost use lib.ListN.{length, getD};
+ghost use lib.Dec.{eqb};
+ghost use Rattle.records.specs.Tests.{below};
+ghost use Rattle.state.specs.State.{noThread, rowAt, withRow, placeOf};
+ghost use Rattle.state.specs.Sound.{threadTest, totals, soundState};
+use account::Pending;
+use account::Server;
+use records::Header;
+use records::Parameters;
+
+mod tests; // tests.rt: what soundness asks of one thread
+
+// One thread: its parameters, whether it is blocked, its total run time, the quantum left of an RR thread, and the
+// capacity, U and activation time of a sporadic one.
+pub struct Thread {
+    pub parameters: Parameters,
+    pub blocked: bool,
+    pub total: u64,
+    pub left: u64,
+    pub server: Server,
+}
+
+// The pending replenishments of thread i are counts[i] and the eight places of dues and amounts from i * 8 on.
+// The lists of the priorities are the array of the crate `ready`.
+pub struct State {
+    pub header: Header,
+    pub now: u64,
+    pub idle: u64,
+    pub word: u32,
+    pub threads: [Thread; 32],
+    pub counts: [u8; 32],
+    pub dues: [u64; 256],
+    pub amounts: [u64; 256],
+    pub lists: [u8; 1056],
+}
+
+// Thread i's eight places.
+pub fn read_row(xs: &[u64; 256], i: usize) -> [u64; 8]
+    requires { ⌜ (i < 32) × (length (now xs) ≡ 256) ⌝ }
+    ensures { λ r. ⌜ r ≡ rowAt i (now (xs .entry)) ⌝ }
+{
+    let mut row = [0u64; 8];
+    let from = i * 8;
+    let mut j: usize = 0;
+    while j < 8 {
+        row[j] = xs[from + j];
+        j = j + 1;
+    }
+    row
+}
+
+// Other numbers in thread i's eight places.
+pub fn write_row(xs: &mut [u64; 256], i: usize, row: [u64; 8])
+    requires { ⌜ (i < 32) × (length (now xs) ≡ 256) ⌝ }
+    ensures { λ _. ⌜ now (xs .exit) ≡ withRow i row (now (xs .entry)) ⌝ }
+{
+    let at = i * 8;
+    let mut j: usize = 0;
+    while j < 8 {
+        xs[at + j] = row[j];
+        j = j + 1;
+    }
+}
+
+// Thread i's pending replenishments.
+pub fn pending_at<'a>(
+    counts: &'a [u8; 32],
+    dues: &'a [u64; 256],
+    amounts: &'a [u64; 256],
+    i: usize,
+) -> Pending
+    requires { ⌜ (i < 32) × (length (now dues) ≡ 256) × (length (now amounts) ≡ 256) ⌝ }
+    ensures { λ r. ⌜ r ≡ record {
+      count = getD (now (counts .entry)) i 0;
+      dues = rowAt i (now (dues .entry));
+      amounts = rowAt i (now (amounts .entry));
+    } ⌝ }
+{
+    Pending {
+        count: counts[i],
+        dues: read_row(dues, i),
+        amounts: read_row(amounts, i),
+    }
+}
+
+// The list in which a thread stands that has `count` replenishments pending, 0 for none.
+pub fn assigned_place(t: Thread, count: u8) -> u8
+    ensures { λ r. ⌜ r ≡ placeOf t count ⌝ }
+{
+    if t.blocked {
+        return 0;
+    }
+    let p = t.parameters;
+    if p.policy < 2 {
+        return p.priority;
+    }
+    if account::at_upper(p, t.server.capacity, count) {
+        return p.priority;
+    }
+    p.low
+}
+
+// The list in which each thread stands.
+fn all_places(threads: [Thread; 32], counts: &[u8; 32]) -> [u8; 32]
+    ensures { λ r. ⌜ ((k : ℕ) → getD r k 0 ≡ placeOf (getD threads k noThread) (getD (now (counts .entry)) k 0)) ⌝ }
+{
+    let mut places = [0u8; 32];
+    let mut i: usize = 0;
+    while i < 32 {
+        let t = threads[i];
+        places[i] = assigned_place(t, counts[i]);
+        i = i + 1;
+    }
+    places
+}
+
+// Whether every thread below N is sound, and every place from N on holds nothing: the definition's test of a state,
+// of which it reads these parts alone.
+fn threads_hold<'a>(
+    header: Header,
+    time: u64,
+    threads: [Thread; 32],
+    counts: &'a [u8; 32],
+    dues: &'a [u64; 256],
+    amounts: &'a [u64; 256],
+) -> bool
+    requires { ⌜ (length (now dues) ≡ 256) × (length (now amounts) ≡ 256) ⌝ }
+    ensures { λ r. ⌜ r ≡ below 32 (threadTest (record {
+      header = header;
+      now = time;
+      idle = 0;
+      word = 0;
+      threads = threads;
+      counts = now (counts .entry);
+      dues = now (dues .entry);
+      amounts = now (amounts .entry);
+      lists = [];
+    })) ⌝ }
+{
+    let n = header.n as usize;
+    let mut i: usize = 0;
+    while i < 32 {
+        let t = threads[i];
+        let q = pending_at(counts, dues, amounts, i);
+        let present = i < n;
+        i = i + 1;
+        if !tests::thread_holds(present, header.start, time, t, q) {
+            return false;
+        }
+    }
+    true
+}
+
+// Whether the start time, all run times and the idle time make `time`. Each is taken from what is left, so that no
+// sum wraps.
+fn totals_hold(threads: [Thread; 32], start: u64, idle: u64, time: u64) -> bool
+    ensures { λ r. ⌜ r ≡ eqb (start + totals threads + idle) time ⌝ }
+{
+    if time < start {
+        return false;
+    }
+    let mut left = time - start;
+    let mut k: usize = 0;
+    while k < 32 {
+        let t = threads[k];
+        k = k + 1;
+        if left < t.total {
+            return false;
+        }
+        left = left - t.total;
+    }
+    left == idle
+}
+
+// Whether a state is sound, for any contents.
+pub fn sound(s: State) -> bool
+    ensures { λ r. ⌜ r ≡ soundState s ⌝ }
+{
+    let header = s.header;
+    if header.n < 1 {
+        return false;
+    }
+    if 32 < header.n {
+        return false;
+    }
+    if s.now < header.start {
+        return false;
+    }
+    if 1000000000000000 < s.now {
+        return false;
+    }
+    let threads = s.threads;
+    if !threads_hold(header, s.now, threads, &s.counts, &s.dues, &s.amounts) {
+        return false;
+    }
+    let lists = s.lists;
+    let places = all_places(threads, &s.counts);
+    if !ready::sound(lists, s.word, places) {
+        return false;
+    }
+    totals_hold(threads, header.start, s.idle, s.now)
+}
