@@ -1,0 +1,2 @@
+-- What a reader of `little_endian` must believe.
+pub mod LittleEndian

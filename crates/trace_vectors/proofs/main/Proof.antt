@@ -1,0 +1,50 @@
+-- `trace_vectors::main` is safe and ends: each turn takes the next argument.
+use Prim.Native.Nat.{_-_}
+use native.Mathlib.Omega.{arith}
+use Rattle.trace_vectors.proofs.main.Statement.{statement}
+use Rattle.trace_vectors.proofs.main.Tie as tie
+
+abbrev Inv-loop : tie.InvT-loop
+Inv-loop n i₀ i = Unit {0}
+
+abbrev μ-loop : tie.MeasureT-loop
+μ-loop n i₀ i = n - i
+
+made-here-requires : tie.Need-made-here-requires Inv-loop μ-loop
+made-here-requires c κs = tt
+
+arg-count-requires : tie.Need-arg-count-requires Inv-loop μ-loop
+arg-count-requires c κs = tt
+
+loop-holds : tie.Need-loop-holds Inv-loop μ-loop
+loop-holds c = tt
+
+argument-requires : tie.Need-argument-requires Inv-loop μ-loop
+argument-requires c κs = tt
+
+add-i : tie.Need-add-i Inv-loop μ-loop
+add-i c = omega arith
+
+loop-less : tie.Need-loop-less Inv-loop μ-loop
+loop-less c = omega arith
+
+loop-again : tie.Need-loop-again Inv-loop μ-loop
+loop-again c = tt
+
+returns : tie.Need-returns Inv-loop μ-loop
+returns c = tt
+
+pub main-spec : {M : Type 1} → statement M
+main-spec =
+    tie.close
+    (tie.spec
+    Inv-loop
+    μ-loop
+    made-here-requires
+    arg-count-requires
+    loop-holds
+    argument-requires
+    add-i
+    loop-less
+    loop-again
+    returns)
