@@ -5,3 +5,10 @@ pub mod ChargeLaws
 pub mod LimitLaws
 pub mod FireLaws
 pub mod MomentLaws
+pub mod EarlierLaws
+pub mod RunLaws
+pub mod TurnLaws
+pub mod SeenLaws
+pub mod StepLaws
+pub mod AdvanceLaws
+pub mod AnswerLaws

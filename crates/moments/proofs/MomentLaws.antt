@@ -37,7 +37,7 @@ within-at (suc (suc c)) true now k left cap l h = (λ e. absurd (omega arith), �
 within-at (suc (suc c)) false now k left cap l h = (λ e. absurd (omega arith), λ e f. false-true f)
 
 -- ticks before the limit leave something of what the running thread runs on
-within-limit : (lo : ℕ → ℕ) (k : ℕ) (s : State) → SoundFrom lo s → (0 < limit s → s .now + k < limit s) → idles s ≡ false → Within (level s) k (threadAt s (head s))
+pub within-limit : (lo : ℕ → ℕ) (k : ℕ) (s : State) → SoundFrom lo s → (0 < limit s → s .now + k < limit s) → idles s ≡ false → Within (level s) k (threadAt s (head s))
 within-limit lo k s h q e =
     let t = threadAt s (head s) in
     let v = within-at (t .parameters .policy) (eqb (level s) (t .parameters .priority)) (s .now) k (t .left) (t .server .capacity) (runner-lasts lo s h e) (rw e at q) in

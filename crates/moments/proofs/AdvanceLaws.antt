@@ -1,0 +1,419 @@
+-- The turns of `advance`, over what each of its steps gives.
+use Prim.Native.Nat.{ℕ, _+_, _-_, _*_, _≤_, _<_, _^_}
+use mathlib.Core.Bool.{Bool, true, false, cond}
+use mathlib.Core.Path.{_≡_, refl, sym, ap, ap₂, _∙_, subst⁻¹}
+use mathlib.Core.List.{List}
+use lib.ListN.{getD, set}
+use lib.Dec.{eqb}
+use native.Mathlib.Omega.{arith}
+use borrow.Author.Tests.{eqb-true, eqb-false, lt-ltb, le-leb}
+use Rattle.records.proofs.TestLaws.{tests, cond-true, cond-false}
+use Rattle.account.specs.declared.Pending.{Pending}
+use Rattle.account.specs.declared.Outcome.{Outcome}
+use Rattle.account.specs.Rules.{limitReached, firstIsDue, returning}
+use Rattle.ready.specs.Lists.{moved}
+use Rattle.ready.specs.Word.{occupancy}
+use Rattle.ready.specs.Rules.{Movable}
+use Rattle.passing.specs.Time.{dueBy}
+use Rattle.passing.proofs.TimeLaws.{due-true, due-false}
+use Rattle.state.specs.declared.Thread.{Thread}
+use Rattle.state.specs.declared.State.{State}
+use Rattle.state.specs.State.{threadAt, rowAt, withRow, pendingAt, accountAt}
+use Rattle.moments.specs.declared.Due.{Due}
+use Rattle.moments.specs.Running.{level, head, ran, charge, limit, next}
+use Rattle.moments.specs.Changes.{withServer, withLeft, sentTo, withOutcome}
+use Rattle.moments.specs.Moments.{quantumEnded, limits, passed}
+use Rattle.moments.proofs.DueLaws.{found, row-first, earlier-left}
+use Rattle.moments.proofs.ChargeLaws.{limit-later}
+use Rattle.moments.proofs.TurnLaws.{firstOf, Going, weight, turn-rest, turn-limit, due-some, not-past, charged-going, due-now, turn-due}
+use Rattle.moments.proofs.SeenLaws.{Seen, seen-head, seen-at, seen-small, seen-limit, seen-next, charge-fits, charge-place}
+use Rattle.moments.proofs.StepLaws.{Sendable, limit-not-upper, limit-runs, limit-thread, quantum-movable, quantum-is, limited-is, limited-requires, limited-sendable, due-sendable, due-is}
+
+-- ticks charged in place: the time, the idle time, and thread i
+abbrev pub withTicks : ℕ → ℕ → ℕ → Thread → State → State
+withTicks i now idle w s =
+    record {
+      header = s .header;
+      now = now;
+      idle = idle;
+      word = s .word;
+      threads = set (s .threads) i w;
+      counts = s .counts;
+      dues = s .dues;
+      amounts = s .amounts;
+      lists = s .lists;
+    }
+
+-- an outcome put in place
+pub outcome-place : (u : State) (j : ℕ) (o : Outcome) (n w : ℕ) (v : Thread) (d a l : List ℕ) → n ≡ j
+    → l ≡ sentTo (o .place) n (threadAt u j .parameters) (u .lists) → w ≡ occupancy (sentTo (o .place) n (threadAt u j .parameters) (u .lists))
+    → v ≡ withServer (o .account .server) (threadAt u j) → d ≡ withRow j (o .account .pending .dues) (u .dues) → a ≡ withRow j (o .account .pending .amounts) (u .amounts)
+    → _≡_ {A = State} (record {
+      header = u .header;
+      now = u .now;
+      idle = u .idle;
+      word = w;
+      threads = set (u .threads) j v;
+      counts = set (u .counts) j (o .account .pending .count);
+      dues = d;
+      amounts = a;
+      lists = l;
+    }) (withOutcome j o u)
+outcome-place u j o n w v d a l en el ew ev ed ea =
+    λ y. record {
+      header = u .header;
+      now = u .now;
+      idle = u .idle;
+      word = (ew ∙ ap (λ (k : ℕ). occupancy (sentTo (o .place) k (threadAt u j .parameters) (u .lists))) en) y;
+      threads = set (u .threads) j (ev y);
+      counts = set (u .counts) j (o .account .pending .count);
+      dues = ed y;
+      amounts = ea y;
+      lists = (el ∙ ap (λ (k : ℕ). sentTo (o .place) k (threadAt u j .parameters) (u .lists)) en) y;
+    }
+
+-- a turn: where time started and where it goes to, the state, and what is read of it
+pub record Turn : Type 0 where
+  pub origin : State
+  pub to : ℕ
+  pub bounded : to ≤ 1000000000000000
+  pub state : State
+  pub going : Going origin to state
+  pub first : Due
+  pub list : ℕ
+  pub head : ℕ
+  pub at : ℕ
+  pub limit : ℕ
+  pub moment : ℕ
+  pub seen : Seen state first list head at limit moment
+
+-- the moment is due, and the ticks up to it are charged
+pub record Ticked (r : Turn) : Type 0 where
+  pub due : dueBy (r .moment) (r .to) ≡ true
+  pub idle : ℕ
+  pub thread : Thread
+  pub idle-is : idle ≡ r .state .idle + cond (eqb (r .list) 0) (r .moment - r .state .now) 0
+  pub thread-is : thread ≡ cond (eqb (r .list) 0) (threadAt (r .state) (r .at)) (ran (r .list) (r .moment - r .state .now) (threadAt (r .state) (r .at)))
+
+abbrev pub tickedState : (r : Turn) → Ticked r → State
+tickedState r k = withTicks (r .at) (r .moment) (k .idle) (k .thread) (r .state)
+
+-- no quantum ends, and the thread is chosen to which the moment belongs
+pub record Chosen (r : Turn) (k : Ticked r) : Type 0 where
+  pub not-ended : cond (eqb (r .moment) (r .limit)) (eqb (k .thread .parameters .policy) 1) false ≡ false
+  pub number : ℕ
+  pub number-is : number ≡ cond (eqb (r .moment) (r .limit)) (r .at) (r .first .thread)
+
+-- what the rule of a turn leaves: the thread can be sent, time goes on as before, and a turn less is left
+pub record Acted (r : Turn) (u : State) (j : ℕ) (o : Outcome) : Type 0 where
+  pub sendable : Sendable (u .word) j (threadAt u j .parameters) (u .lists) (o .place)
+  pub going : Going (r .origin) (r .to) (withOutcome j o u)
+  pub falls : weight (r .to) (withOutcome j o u) < weight (r .to) (r .state)
+
+module _ (r : Turn) where
+  abbrev s₀ : State
+  s₀ = r .origin
+
+  abbrev s : State
+  s = r .state
+
+  abbrev t : ℕ
+  t = r .to
+
+  abbrev g : Going s₀ t s
+  g = r .going
+
+  abbrev top : t ≤ 1000000000000000
+  top = r .bounded
+
+  abbrev x : Due
+  x = r .first
+
+  abbrev p : ℕ
+  p = r .list
+
+  abbrev h : ℕ
+  h = r .head
+
+  abbrev i : ℕ
+  i = r .at
+
+  abbrev l : ℕ
+  l = r .limit
+
+  abbrev m : ℕ
+  m = r .moment
+
+  abbrev v : Seen s x p h i l m
+  v = r .seen
+
+  is-limit : l ≡ limit s
+  is-limit = seen-limit (λ i. s .now - 1) s (g .mid) x p h i l m v
+
+  is-next : m ≡ next s
+  is-next = seen-next (λ i. s .now - 1) s (g .mid) x p h i l m v
+
+  at-small : i < 32
+  at-small = seen-small (λ i. s .now - 1) s (g .mid) x p h i l m v
+
+  idle-fits : (k : ℕ) → s .now + k ≤ t → s .idle + k < 2 ^ 64
+  idle-fits k q = omega (arith, g .mid .timed, top)
+
+  pub rest-idle : s .idle + (t - s .now) < 2 ^ 64
+  rest-idle = idle-fits (t - s .now) (omega (arith, g .by))
+
+  -- the moment is no later than the limit
+  by-limit : 0 < l → (0 < m) × (m ≤ l)
+  by-limit q = let y = earlier-left (limit s) (firstOf s .due) (omega (arith, is-limit)) in (omega (arith, y .0, is-next), omega (arith, y .1, is-next, is-limit))
+
+  -- ---- no moment is due by t
+
+  pub rest-fits : dueBy m t ≡ false → eqb p 0 ≡ false
+      → (threadAt s i .total + (t - s .now) < 2 ^ 64) × (threadAt s i .server .used + (t - s .now) < 2 ^ 64)
+      × (threadAt s i .parameters .policy ≡ 1 → t - s .now ≤ threadAt s i .left)
+      × (1 < threadAt s i .parameters .policy → p ≡ threadAt s i .parameters .priority → t - s .now ≤ threadAt s i .server .capacity)
+  rest-fits b =
+      charge-fits (λ i. s .now - 1) s (g .mid) x p h i l m v (t - s .now) (omega (arith, g .by))
+      (λ q. let y = by-limit q in omega (arith, g .by, y .1, due-false m t b (y .0)))
+
+  pub last : dueBy m t ≡ false → (idle : ℕ) (w : Thread) → idle ≡ s .idle + cond (eqb p 0) (t - s .now) 0
+      → w ≡ cond (eqb p 0) (threadAt s i) (ran p (t - s .now) (threadAt s i))
+      → _≡_ {A = State} (record {
+        header = s .header;
+        now = t;
+        idle = idle;
+        word = s .word;
+        threads = set (s .threads) i w;
+        counts = s .counts;
+        dues = s .dues;
+        amounts = s .amounts;
+        lists = s .lists;
+      }) (passed s₀ t)
+  last b idle w fi fw =
+      let n : t ≡ s .now + (t - s .now) = omega (arith, g .by) in
+      charge-place (λ i. s .now - 1) s (g .mid) x p h i l m v (t - s .now) t idle w n fi fw
+      ∙ turn-rest s₀ s t g (ap (λ (n : ℕ). dueBy n t) (sym is-next) ∙ b)
+
+  -- ---- a moment that is due by t
+
+  module _ (b : dueBy m t ≡ true) where
+    some : 0 < next s
+    some = omega (arith, due-true m t b .0, is-next)
+
+    by : next s ≤ t
+    by = omega (arith, due-true m t b .1, is-next)
+
+    pub not-before : s .now ≤ m
+    not-before = go (eqb (limit s) (next s)) refl
+      where
+        go : (b : Bool) → eqb (limit s) (next s) ≡ b → s .now ≤ m
+        go true q = omega (arith, is-next, eqb-true (limit s) (next s) q, limit-later (λ i. s .now - 1) s (g .mid) (omega (arith, some, eqb-true (limit s) (next s) q)))
+        go false q = omega (arith, is-next, not-past s₀ s t g some by top (eqb-false (limit s) (next s) q))
+
+    later : s .now ≤ next s
+    later = omega (arith, not-before, is-next)
+
+    moment-by : m ≤ t
+    moment-by = omega (arith, by, is-next)
+
+    pub moment-idle : s .idle + (m - s .now) < 2 ^ 64
+    moment-idle = idle-fits (m - s .now) (omega (arith, not-before, moment-by))
+
+    pub moment-fits : eqb p 0 ≡ false
+        → (threadAt s i .total + (m - s .now) < 2 ^ 64) × (threadAt s i .server .used + (m - s .now) < 2 ^ 64)
+        × (threadAt s i .parameters .policy ≡ 1 → m - s .now ≤ threadAt s i .left)
+        × (1 < threadAt s i .parameters .policy → p ≡ threadAt s i .parameters .priority → m - s .now ≤ threadAt s i .server .capacity)
+    moment-fits =
+        charge-fits (λ i. s .now - 1) s (g .mid) x p h i l m v (m - s .now) (omega (arith, moment-by, not-before))
+        (λ q. omega (arith, not-before, by-limit q .1))
+
+  -- the ticks up to it are charged in place
+  module _ (k : Ticked r) where
+    abbrev b : dueBy m t ≡ true
+    b = k .due
+
+    abbrev idle : ℕ
+    idle = k .idle
+
+    abbrev w : Thread
+    w = k .thread
+
+    abbrev u : State
+    u = tickedState r k
+
+    charged-is : u ≡ charge (next s - s .now) s
+    charged-is =
+        let n : m ≡ s .now + (m - s .now) = omega (arith, (not-before b)) in
+        charge-place (λ i. s .now - 1) s (g .mid) x p h i l m v (m - s .now) m idle w n (k .idle-is) (k .thread-is)
+        ∙ ap (λ (n : ℕ). charge (n - s .now) s) is-next
+
+    -- ---- at a limit
+
+    module _ (q : eqb m l ≡ true) where
+      limited : limit s ≡ next s
+      limited = sym is-limit ∙ sym (eqb-true m l q) ∙ is-next
+
+      some-runs : eqb p 0 ≡ false
+      some-runs = ap (λ (k : ℕ). eqb k 0) (v .list) ∙ limit-runs (λ i. s .now - 1) s (g .mid) (some b) limited (later b)
+
+      at-head : i ≡ head s
+      at-head = seen-at (λ i. s .now - 1) s (g .mid) x p h i l m v some-runs
+
+      thread-is : w ≡ ran (level s) (next s - s .now) (threadAt s (head s))
+      thread-is =
+          k .thread-is
+          ∙ cond-false (eqb p 0) _ _ some-runs
+          ∙ ap₂ (λ (r j : ℕ). ran r (m - s .now) (threadAt s j)) (v .list) at-head
+          ∙ ap (λ (n : ℕ). ran (level s) (n - s .now) (threadAt s (head s))) is-next
+
+      policy-is : w .parameters .policy ≡ threadAt s (head s) .parameters .policy
+      policy-is = ap (λ (y : Thread). y .parameters .policy) thread-is
+
+      -- the end of a quantum
+
+      pub ended-movable : Movable (s .word) h p p (s .lists)
+      ended-movable =
+          subst⁻¹ (λ (n : ℕ). Movable (s .word) n p p (s .lists)) (seen-head (λ i. s .now - 1) s (g .mid) x p h i l m v some-runs)
+          (subst⁻¹ (λ (r : ℕ). Movable (s .word) (head s) r r (s .lists)) (v .list) (quantum-movable (λ i. s .now - 1) s (g .mid) (some b) limited (later b)))
+
+      module _ (z : w .parameters .policy ≡ 1) (f : Thread) (o : ℕ) (ls : List ℕ) (ff : f ≡ withLeft (w .parameters .budget) w)
+          (fo : o ≡ occupancy (moved h p p (s .lists))) (fl : ls ≡ moved h p p (s .lists)) where
+        abbrev ended : State
+        ended =
+            record {
+              header = s .header;
+              now = m;
+              idle = idle;
+              word = o;
+              threads = set (set (s .threads) i w) i f;
+              counts = s .counts;
+              dues = s .dues;
+              amounts = s .amounts;
+              lists = ls;
+            }
+
+        ended-is : ended ≡ limits (charge (next s - s .now) s)
+        ended-is =
+            placed
+            ∙ ap (λ (r : ℕ). quantumEnded r i w u) (v .list)
+            ∙ ap (λ (j : ℕ). quantumEnded (level s) j w u) at-head
+            ∙ ap₂ (λ (y : Thread) (a : State). quantumEnded (level s) (head s) y a) thread-is charged-is
+            ∙ quantum-is (λ i. s .now - 1) s (g .mid) (some b) limited (later b) (sym policy-is ∙ z)
+          where
+            placed : ended ≡ quantumEnded p i w u
+            placed =
+                λ y. record {
+                  header = s .header;
+                  now = m;
+                  idle = idle;
+                  word = (fo ∙ ap (λ (k : ℕ). occupancy (moved k p p (s .lists))) (sym (v .at))) y;
+                  threads = set (set (s .threads) i w) i (ff y);
+                  counts = s .counts;
+                  dues = s .dues;
+                  amounts = s .amounts;
+                  lists = (fl ∙ ap (λ (k : ℕ). moved k p p (s .lists)) (sym (v .at))) y;
+                }
+
+        pub ended-turn : Going s₀ t ended × (weight t ended < weight t s)
+        ended-turn = subst⁻¹ (λ (a : State). Going s₀ t a × (weight t a < weight t s)) ended-is (turn-limit s₀ s t g (some b) (by b) top limited)
+
+    -- ---- a limit or what is due
+
+    module _ (d : Chosen r k) where
+      abbrev z : cond (eqb m l) (eqb (w .parameters .policy) 1) false ≡ false
+      z = d .not-ended
+
+      abbrev j : ℕ
+      j = d .number
+
+      abbrev fj : j ≡ cond (eqb m l) i (x .thread)
+      fj = d .number-is
+
+      abbrev c : State
+      c = charge (next s - s .now) s
+
+      not-rr : eqb m l ≡ true → threadAt s (head s) .parameters .policy ≡ 1 → ⊥
+      not-rr q e = eqb-false (w .parameters .policy) 1 (sym (cond-true (eqb m l) _ _ q) ∙ z) (policy-is q ∙ e)
+
+      j-head : eqb m l ≡ true → j ≡ head s
+      j-head q = fj ∙ cond-true (eqb m l) _ _ q ∙ at-head q
+
+      j-due : eqb m l ≡ false → j ≡ firstOf s .thread
+      j-due q = fj ∙ cond-false (eqb m l) _ _ q ∙ ap (λ (y : Due). y .thread) (v .first)
+
+      unlimited : eqb m l ≡ false → limit s ≡ next s → ⊥
+      unlimited q e = eqb-false m l q (is-next ∙ sym e ∙ sym is-limit)
+
+      first-small : eqb m l ≡ false → firstOf s .thread < 32
+      first-small q =
+          let r = found (s .counts) (s .dues) (s .header .n) (omega (tests, g .mid .sizes)) .some (due-some s₀ s t g (some b) (by b) top (unlimited q)) in
+          omega (tests, r .0, g .mid .sizes)
+
+      pub number-small : j < 32
+      number-small = go (eqb m l) refl
+        where
+          go : (a : Bool) → eqb m l ≡ a → j < 32
+          go true q = omega (arith, at-small, fj ∙ cond-true (eqb m l) i (x .thread) q)
+          go false q = omega (arith, first-small q, j-due q)
+
+      -- what the rule of the limit requires
+      pub limit-requires : (a : Pending) → a ≡ pendingAt u j → eqb m l ≡ true
+          → (threadAt u j .server .activation + threadAt u j .parameters .period < 2 ^ 64) × (0 < threadAt u j .server .used → a .count < 8)
+      limit-requires a e q =
+          subst⁻¹ (λ (y : Pending). (threadAt u j .server .activation + threadAt u j .parameters .period < 2 ^ 64) × (0 < threadAt u j .server .used → y .count < 8)) e
+          (subst⁻¹ (λ (y : State). (threadAt y j .server .activation + threadAt y j .parameters .period < 2 ^ 64) × (0 < threadAt y j .server .used → pendingAt y j .count < 8)) charged-is
+          (subst⁻¹ (λ (n : ℕ). (threadAt c n .server .activation + threadAt c n .parameters .period < 2 ^ 64) × (0 < threadAt c n .server .used → pendingAt c n .count < 8)) (j-head q)
+          (limited-requires (λ i. s .now - 1) s (g .mid) (some b) (limited q) (later b) (not-rr q))))
+
+      -- the rule, on the state as it is charged
+      abbrev rule : State → ℕ → Outcome
+      rule y n =
+          cond (eqb m l) (limitReached (y .now) (threadAt y n .parameters) (accountAt y n))
+          (returning (y .now) (threadAt y n .blocked) (threadAt y n .parameters) (accountAt y n))
+
+      on-charged : Acted r c j (rule c j)
+      on-charged = go (eqb m l) refl
+        where
+          go : (a : Bool) → eqb m l ≡ a → Acted r c j (rule c j)
+          go true q =
+              subst⁻¹ (λ (n : ℕ). Acted r c n (rule c n)) (j-head q)
+              (subst⁻¹ (Acted r c (head s)) (cond-true (eqb m l) _ _ q)
+              (record {
+                sendable =
+                    subst⁻¹ (λ (y : Thread). Sendable (s .word) (head s) (y .parameters) (s .lists) (limitReached (c .now) (threadAt c (head s) .parameters) (accountAt c (head s)) .place))
+                    (limit-thread (λ i. s .now - 1) s (g .mid) (some b) (limited q) (later b))
+                    (limited-sendable (λ i. s .now - 1) s (g .mid) (some b) (limited q) (later b) (not-rr q) _ (limit-not-upper (c .now) (threadAt c (head s) .parameters) (accountAt c (head s))));
+                going = subst⁻¹ (Going s₀ t) (limited-is (λ i. s .now - 1) s (g .mid) (some b) (limited q) (later b) (not-rr q)) (turn-limit s₀ s t g (some b) (by b) top (limited q) .0);
+                falls =
+                    subst⁻¹ (λ (y : State). weight t y < weight t s) (limited-is (λ i. s .now - 1) s (g .mid) (some b) (limited q) (later b) (not-rr q))
+                    (turn-limit s₀ s t g (some b) (by b) top (limited q) .1);
+              }))
+          go false q =
+              let e = unlimited q in
+              let y = found (s .counts) (s .dues) (s .header .n) (omega (tests, g .mid .sizes)) .some (due-some s₀ s t g (some b) (by b) top e) in
+              let n = charged-going s₀ s t g (some b) (by b) top e in
+              let is = due-is (λ i. c .now - 1) c (n .mid) (firstOf s .thread) (first-small q) (y .1) (due q (y .1) (y .2)) in
+              subst⁻¹ (λ (n : ℕ). Acted r c n (rule c n)) (j-due q)
+              (subst⁻¹ (Acted r c (firstOf s .thread)) (cond-false (eqb m l) _ _ q)
+              (record {
+                sendable = due-sendable (λ i. c .now - 1) c (n .mid) (firstOf s .thread) (first-small q) (y .1);
+                going = subst⁻¹ (Going s₀ t) is (turn-due s₀ s t g (some b) (by b) top e .0);
+                falls = subst⁻¹ (λ (y : State). weight t y < weight t s) is (turn-due s₀ s t g (some b) (by b) top e .1);
+              }))
+            where
+              due : eqb m l ≡ false → 0 < getD (s .counts) (firstOf s .thread) 0 → firstOf s .due ≡ getD (s .dues) (firstOf s .thread * 8) 0
+                  → firstIsDue (c .now) (pendingAt c (firstOf s .thread)) ≡ true
+              due q n f =
+                  rw (lt-ltb 0 (getD (s .counts) (firstOf s .thread) 0) n)
+                  (le-leb (getD (rowAt (firstOf s .thread) (s .dues)) 0 0) (s .now + (next s - s .now)) (omega (arith, row-first (firstOf s .thread) (s .dues), f, due-now s₀ s t g (some b) (by b) top (unlimited q))))
+
+      -- and on the state in place
+      pub acts : (a : Pending) (o : Outcome) → a ≡ pendingAt u j
+          → o ≡ cond (eqb m l) (limitReached m (threadAt u j .parameters) (record { server = threadAt u j .server; pending = a }))
+          (returning m (threadAt u j .blocked) (threadAt u j .parameters) (record { server = threadAt u j .server; pending = a }))
+          → Acted r u j o
+      acts a o e f =
+          subst⁻¹ (Acted r u j)
+          (f ∙ ap (λ (y : Pending). cond (eqb m l) (limitReached m (threadAt u j .parameters) (record { server = threadAt u j .server; pending = y }))
+          (returning m (threadAt u j .blocked) (threadAt u j .parameters) (record { server = threadAt u j .server; pending = y }))) e)
+          (subst⁻¹ (λ (y : State). Acted r y j (rule y j)) charged-is on-charged)
