@@ -28,15 +28,20 @@ module _ (now : ℕ) (p : Parameters) (a : Account) where
   unfolding scheduled
   scheduled-later h e = simp (ne-eqb (a .server .used) 0 (λ z. omega arith), e)
 
-  pub limit-none : a .server .used ≡ 0 → limitReached now p a ≡ outcome (scheduled now p a) Low
+  pub limit-blocked : limitReached now true p a ≡ outcome a Stays
+  unfolding limitReached
+  limit-blocked = refl
+
+  -- the limit of a runnable thread
+  pub limit-none : a .server .used ≡ 0 → limitReached now false p a ≡ outcome (scheduled now p a) Low
   unfolding limitReached
   limit-none e = simp (le-ltb 0 (a .server .used) (omega arith))
 
-  pub limit-once : 0 < a .server .used → dueNow now p (a .server) ≡ true → limitReached now p a ≡ outcome (activated now (scheduled now p a)) LowThenUpper
+  pub limit-once : 0 < a .server .used → dueNow now p (a .server) ≡ true → limitReached now false p a ≡ outcome (activated now (scheduled now p a)) LowThenUpper
   unfolding limitReached
   limit-once h e = simp (lt-ltb 0 (a .server .used) h, e)
 
-  pub limit-later : 0 < a .server .used → dueNow now p (a .server) ≡ false → limitReached now p a ≡ outcome (scheduled now p a) Low
+  pub limit-later : 0 < a .server .used → dueNow now p (a .server) ≡ false → limitReached now false p a ≡ outcome (scheduled now p a) Low
   unfolding limitReached
   limit-later h e = simp (lt-ltb 0 (a .server .used) h, e)
 

@@ -245,7 +245,7 @@ module _ (start now : ℕ) (p : Parameters) where
   module _ (lo : ℕ) (a : Account) where
     -- the limit, at its instant: a thread that was at its upper priority, with its capacity used up
     module _ (h : AccountSound start now lo true p a) (u : 0 < a .server .used) (m : a .pending .count < p .«max_repl») where
-      pub limit-once-sound : start ≤ now → dueNow now p (a .server) ≡ true → Sent start now lo true p LowThenUpper (limitReached now p a)
+      pub limit-once-sound : start ≤ now → dueNow now p (a .server) ≡ true → Sent start now lo true p LowThenUpper (limitReached now false p a)
       limit-once-sound l d =
           rw (limit-once now p a u d, scheduled-once now p a u d)
           (record {
@@ -255,7 +255,7 @@ module _ (start now : ℕ) (p : Parameters) where
           })
 
       pub limit-later-sound : lo ≤ now → p .«max_repl» ≤ 8 → a .server .capacity ≡ 0 → dueNow now p (a .server) ≡ false
-          → Sent start now lo false p Low (limitReached now p a)
+          → Sent start now lo false p Low (limitReached now false p a)
       limit-later-sound l m8 z d =
           rw (limit-later now p a u d, scheduled-later now p a u d)
           (record {
@@ -266,14 +266,14 @@ module _ (start now : ℕ) (p : Parameters) where
 
     -- a block: the thread stands in no list afterwards
     pub block-sound : (up : Bool) → AccountSound start now lo up p a → lo ≤ now → p .«max_repl» ≤ 8
-        → (up ≡ true → a .pending .count < p .«max_repl») → AccountSound start now lo false p (blocking now p a .account)
+        → (up ≡ true → a .pending .count < p .«max_repl») → AccountSound start now lo false p (blocking now false p a .account)
     block-sound up h l m8 m = schedule-sound start now lo p a up h l m8 m
 
     -- a wake of a blocked thread
-    pub wake-upper : AccountSound start now lo false p a → start ≤ now → isUpper p a ≡ true → Sent start now lo true p Upper (waking now p a)
+    pub wake-upper : AccountSound start now lo false p a → start ≤ now → isUpper p a ≡ true → Sent start now lo true p Upper (waking now true p a)
     wake-upper h l e = rw e (record { sound = activate-sound start now lo p a h l; upper = e; place = refl })
 
-    pub wake-low : AccountSound start now lo false p a → isUpper p a ≡ false → Sent start now lo false p Low (waking now p a)
+    pub wake-low : AccountSound start now lo false p a → isUpper p a ≡ false → Sent start now lo false p Low (waking now true p a)
     wake-low h e = rw e (record { sound = h; upper = e; place = refl })
 
 -- ---- what is due comes back

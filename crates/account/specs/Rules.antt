@@ -73,20 +73,25 @@ activated now a =
 abbrev pub outcome : Account → Place → Outcome
 outcome a x = record { account = a; place = x }
 
--- Passing 6 and 14: at the limit U is scheduled and the thread goes to low; where U came back at once it goes on to upper
-unfoldable pub limitReached : ℕ → Parameters → Account → Outcome
-limitReached now p a =
-    cond (ltb 0 (a .server .used) && dueNow now p (a .server))
+-- Passing 6 and 14: at the limit U is scheduled and the thread goes to low; where U came back at once it goes on to upper.
+-- A blocked thread has no limit to reach (ours): nothing changes
+unfoldable pub limitReached : ℕ → Bool → Parameters → Account → Outcome
+limitReached now blocked p a =
+    cond blocked
+    (outcome a Stays)
+    (cond (ltb 0 (a .server .used) && dueNow now p (a .server))
     (outcome (activated now (scheduled now p a)) LowThenUpper)
-    (outcome (scheduled now p a) Low)
+    (outcome (scheduled now p a) Low))
 
--- Events 3: a block schedules U; the thread stands in no list, so nothing moves it
-abbrev pub blocking : ℕ → Parameters → Account → Outcome
-blocking now p a = outcome (scheduled now p a) Stays
+-- Events 3: a block schedules U; the thread stands in no list, so nothing moves it. One that is blocked already (ours): nothing
+-- changes
+abbrev pub blocking : ℕ → Bool → Parameters → Account → Outcome
+blocking now blocked p a = cond blocked (outcome a Stays) (outcome (scheduled now p a) Stays)
 
--- Events 5: a wake at the upper priority makes now the activation time; either way the thread goes to the tail of its list
-abbrev pub waking : ℕ → Parameters → Account → Outcome
-waking now p a = cond (isUpper p a) (outcome (activated now a) Upper) (outcome a Low)
+-- Events 5: a wake at the upper priority makes now the activation time; either way the thread goes to the tail of its list.
+-- One that is runnable already (ours): nothing changes
+abbrev pub waking : ℕ → Bool → Parameters → Account → Outcome
+waking now blocked p a = cond blocked (cond (isUpper p a) (outcome (activated now a) Upper) (outcome a Low)) (outcome a Stays)
 
 -- Passing 8: the first pending replenishment is due
 abbrev pub firstIsDue : ℕ → Pending → Bool

@@ -188,11 +188,18 @@ fn activate(a: Account, now: u64) -> Account
     }
 }
 
-// The limit is reached: U is scheduled, and the thread goes to low, or on to upper where U came back at once.
-pub fn limit_reached(p: Parameters, a: Account, now: u64) -> Outcome
+// The limit is reached: U is scheduled, and the thread goes to low, or on to upper where U came back at once. Nothing where
+// the thread is blocked.
+pub fn limit_reached(p: Parameters, a: Account, blocked: bool, now: u64) -> Outcome
     requires { ⌜ (a .server .activation + p .period < 2 ^ 64) × (0 < a .server .used → a .pending .count < 8) ⌝ }
-    ensures { λ r. ⌜ r ≡ limitReached now p a ⌝ }
+    ensures { λ r. ⌜ r ≡ limitReached now blocked p a ⌝ }
 {
+    if blocked {
+        return Outcome {
+            account: a,
+            place: Place::Stays,
+        };
+    }
     let s = a.server;
     let b = schedule(p, a, now);
     if s.used == 0 {
@@ -214,11 +221,17 @@ pub fn limit_reached(p: Parameters, a: Account, now: u64) -> Outcome
     }
 }
 
-// The running thread blocks: U is scheduled.
-pub fn block(p: Parameters, a: Account, now: u64) -> Outcome
+// The running thread blocks: U is scheduled. Nothing where it is blocked already.
+pub fn block(p: Parameters, a: Account, blocked: bool, now: u64) -> Outcome
     requires { ⌜ (a .server .activation + p .period < 2 ^ 64) × (0 < a .server .used → a .pending .count < 8) ⌝ }
-    ensures { λ r. ⌜ r ≡ blocking now p a ⌝ }
+    ensures { λ r. ⌜ r ≡ blocking now blocked p a ⌝ }
 {
+    if blocked {
+        return Outcome {
+            account: a,
+            place: Place::Stays,
+        };
+    }
     let scheduled = schedule(p, a, now);
     Outcome {
         account: scheduled,
@@ -226,10 +239,16 @@ pub fn block(p: Parameters, a: Account, now: u64) -> Outcome
     }
 }
 
-// A blocked thread wakes, at the upper or the low priority.
-pub fn wake(p: Parameters, a: Account, now: u64) -> Outcome
-    ensures { λ r. ⌜ r ≡ waking now p a ⌝ }
+// A blocked thread wakes, at the upper or the low priority. Nothing where it is runnable already.
+pub fn wake(p: Parameters, a: Account, blocked: bool, now: u64) -> Outcome
+    ensures { λ r. ⌜ r ≡ waking now blocked p a ⌝ }
 {
+    if !blocked {
+        return Outcome {
+            account: a,
+            place: Place::Stays,
+        };
+    }
     if at_upper(p, a.server.capacity, a.pending.count) {
         let b = activate(a, now);
         return Outcome {

@@ -106,7 +106,7 @@ fn run(p: Parameters, a: Account, k: u64, now: u64) -> Account {
     b
 }
 
-fn limit(p: Parameters, a: Account, now: u64) -> Account {
+fn limit(p: Parameters, a: Account, blocked: bool, now: u64) -> Account {
     if 1000000000000000 < a.server.activation {
         return a;
     }
@@ -116,12 +116,12 @@ fn limit(p: Parameters, a: Account, now: u64) -> Account {
     if 8 <= a.pending.count {
         return a;
     }
-    let o = account::limit_reached(p, a, now);
-    print_outcome(p, o, false, now);
+    let o = account::limit_reached(p, a, blocked, now);
+    print_outcome(p, o, blocked, now);
     o.account
 }
 
-fn block(p: Parameters, a: Account, now: u64) -> Account {
+fn block(p: Parameters, a: Account, blocked: bool, now: u64) -> Account {
     if 1000000000000000 < a.server.activation {
         return a;
     }
@@ -131,13 +131,13 @@ fn block(p: Parameters, a: Account, now: u64) -> Account {
     if 8 <= a.pending.count {
         return a;
     }
-    let o = account::block(p, a, now);
+    let o = account::block(p, a, blocked, now);
     print_outcome(p, o, true, now);
     o.account
 }
 
-fn wake(p: Parameters, a: Account, now: u64) -> Account {
-    let o = account::wake(p, a, now);
+fn wake(p: Parameters, a: Account, blocked: bool, now: u64) -> Account {
+    let o = account::wake(p, a, blocked, now);
     print_outcome(p, o, false, now);
     o.account
 }
@@ -154,13 +154,13 @@ fn replay() {
     let p = sporadic(10, 40, 2);
     let a = account::fresh(p, 0);
     let b = run(p, a, 6, 6);
-    let c = block(p, b, 6);
-    let d = wake(p, c, 15);
+    let c = block(p, b, false, 6);
+    let d = wake(p, c, true, 15);
     let e = run(p, d, 4, 19);
-    let f = limit(p, e, 19);
+    let f = limit(p, e, false, 19);
     let g = due(p, f, false, 40);
     let h = run(p, g, 6, 46);
-    let i = limit(p, h, 46);
+    let i = limit(p, h, false, 46);
     io::print_decimal(STDOUT_FILENO, account::first_due(i.pending));
     end_line();
 }
@@ -171,8 +171,8 @@ fn one_pending() {
     let p = sporadic(10, 40, 1);
     let a = account::fresh(p, 0);
     let b = run(p, a, 3, 3);
-    let c = block(p, b, 3);
-    let d = wake(p, c, 5);
+    let c = block(p, b, false, 3);
+    let d = wake(p, c, true, 5);
     let e = due(p, d, false, 39);
     due(p, e, false, 40);
 }
@@ -183,7 +183,7 @@ fn budget_is_period() {
     let p = sporadic(10, 10, 2);
     let a = account::fresh(p, 0);
     let b = run(p, a, 10, 10);
-    limit(p, b, 10);
+    limit(p, b, false, 10);
 }
 
 // 01's row: preempted from 4 to 20.
@@ -193,7 +193,7 @@ fn preempted() {
     let a = account::fresh(p, 0);
     let b = run(p, a, 4, 4);
     let c = run(p, b, 6, 26);
-    limit(p, c, 26);
+    limit(p, c, false, 26);
 }
 
 // 01's row: a wake and a block at one time schedule nothing.
@@ -201,9 +201,9 @@ fn wake_and_block() {
     title(b"wake and block");
     let p = sporadic(10, 40, 2);
     let a = account::fresh(p, 0);
-    let b = block(p, a, 0);
-    let c = wake(p, b, 7);
-    block(p, c, 7);
+    let b = block(p, a, false, 0);
+    let c = wake(p, b, true, 7);
+    block(p, c, false, 7);
 }
 
 fn made(
@@ -236,8 +236,8 @@ fn edges() {
     let p = sporadic(10, 10, 2);
     let a = account::fresh(p, 0);
     let b = run(p, a, 4, 9);
-    block(p, b, 9);
-    block(p, b, 10);
+    block(p, b, false, 9);
+    block(p, b, false, 10);
     title(b"returned while blocked, and while at the upper priority");
     let q = sporadic(10, 40, 2);
     due(q, made(4, 0, 15, 1, 40, 6, 0, 0), true, 40);
@@ -246,9 +246,24 @@ fn edges() {
     due(q, made(8, 0, 0, 1, 40, 6, 0, 0), true, 40);
     due(q, made(0, 0, 0, 2, 40, 3, 40, 4), false, 40);
     title(b"a wake with max_repl pending is at low");
-    wake(q, made(2, 0, 15, 2, 40, 4, 41, 4), 20);
+    wake(q, made(2, 0, 15, 2, 40, 4, 41, 4), true, 20);
     title(b"a limit with nothing charged");
-    limit(q, made(0, 0, 15, 1, 40, 10, 0, 0), 20);
+    limit(q, made(0, 0, 15, 1, 40, 10, 0, 0), false, 20);
+}
+
+// A rule that does not concern the thread leaves the account alone.
+fn unconcerned() {
+    let p = sporadic(10, 40, 2);
+    title(b"a limit of a blocked thread, and of a runnable one");
+    limit(p, made(0, 10, 0, 0, 0, 0, 0, 0), true, 20);
+    limit(p, made(0, 10, 0, 0, 0, 0, 0, 0), false, 20);
+    title(b"a block of a blocked thread, and of a runnable one");
+    block(p, made(6, 4, 0, 0, 0, 0, 0, 0), true, 20);
+    block(p, made(6, 4, 0, 0, 0, 0, 0, 0), false, 20);
+    title(b"a wake of a runnable thread, at upper and at low, and of a blocked one");
+    wake(p, made(4, 0, 15, 1, 40, 6, 0, 0), false, 20);
+    wake(p, made(2, 0, 15, 2, 40, 4, 41, 4), false, 20);
+    wake(p, made(4, 0, 15, 1, 40, 6, 0, 0), true, 20);
 }
 
 fn check(p: Parameters, a: Account, blocked: bool, start: u64, now: u64) {
@@ -368,6 +383,7 @@ fn main() {
     preempted();
     wake_and_block();
     edges();
+    unconcerned();
     numbers_sound();
     entries_sound();
 }

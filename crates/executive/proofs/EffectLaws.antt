@@ -39,7 +39,7 @@ pub record Fits (start now : ℕ) (b : Bool) (t : Thread) (a : Account) : Type 0
 module _ (start now : ℕ) (b : Bool) (t : Thread) (q : Pending) (d : length (q .dues) ≡ 8) (m : length (q .amounts) ≡ 8) where
   -- a block of a thread that stands in list p
   pub block-fits : ThreadSound start now now b t q → t .blocked ≡ false → (p : ℕ) → assigned t (q .count) ≡ p → 1 ≤ p
-      → Fits start now b (withBlocked true t) (ifSporadic t (blocking now (t .parameters) (record { server = t .server; pending = q }) .account) (record { server = t .server; pending = q }))
+      → Fits start now b (withBlocked true t) (ifSporadic t (blocking now false (t .parameters) (record { server = t .server; pending = q }) .account) (record { server = t .server; pending = q }))
   block-fits (absent n e f) w p a l = absurd (omega (arith, ap (λ (x : Thread). assigned x (q .count)) e))
   block-fits (fifo n z h l v f) w p a g =
       subst⁻¹ (Fits start now b (withBlocked true t)) (by-zero (t .parameters .policy) _ _ _ z) (record { dues = d; amounts = m; sound = fifo n z h l v f })
@@ -62,7 +62,7 @@ module _ (start now : ℕ) (b : Bool) (t : Thread) (q : Pending) (d : length (q 
 
   -- a wake of a blocked thread
   pub wake-fits : ThreadSound start now now b t q → t .blocked ≡ true → start ≤ now
-      → Fits start now b (withBlocked false (fullQuantum t)) (ifSporadic t (waking now (t .parameters) (record { server = t .server; pending = q }) .account) (record { server = t .server; pending = q }))
+      → Fits start now b (withBlocked false (fullQuantum t)) (ifSporadic t (waking now true (t .parameters) (record { server = t .server; pending = q }) .account) (record { server = t .server; pending = q }))
   wake-fits (absent n e f) w l = false-true (sym (ap (λ (x : Thread). x .blocked) e) ∙ w)
   wake-fits (fifo n z h l v f) w g =
       subst⁻¹ (Fits start now b (withBlocked false (fullQuantum t))) (by-zero (t .parameters .policy) _ _ _ z)
@@ -80,18 +80,18 @@ module _ (start now : ℕ) (b : Bool) (t : Thread) (q : Pending) (d : length (q 
       slept : AccountSound start now now false (t .parameters) (record { server = t .server; pending = q })
       slept = subst (λ (x : Bool). AccountSound start now now x (t .parameters) (record { server = t .server; pending = q })) (cond-true (t .blocked) false _ w) v
 
-      sent : (u : Bool) (x : Place) → Sent start now now u (t .parameters) x (waking now (t .parameters) (record { server = t .server; pending = q }))
-          → Fits start now b (withBlocked false (fullQuantum t)) (waking now (t .parameters) (record { server = t .server; pending = q }) .account)
+      sent : (u : Bool) (x : Place) → Sent start now now u (t .parameters) x (waking now true (t .parameters) (record { server = t .server; pending = q }))
+          → Fits start now b (withBlocked false (fullQuantum t)) (waking now true (t .parameters) (record { server = t .server; pending = q }) .account)
       sent u x k =
           record {
             dues = omega (tests, k .sound .duePlaces .0);
             amounts = omega (tests, k .sound .amountPlaces .0);
             sound = sporadic n z h (by-two (t .parameters .policy) _ _ _ z ∙ l)
-                (subst⁻¹ (λ (y : Bool). AccountSound start now now y (t .parameters) (waking now (t .parameters) (record { server = t .server; pending = q }) .account)) (k .upper) (k .sound));
+                (subst⁻¹ (λ (y : Bool). AccountSound start now now y (t .parameters) (waking now true (t .parameters) (record { server = t .server; pending = q }) .account)) (k .upper) (k .sound));
           }
 
       by : (u : Bool) → isUpper (t .parameters) (record { server = t .server; pending = q }) ≡ u
-          → Fits start now b (withBlocked false (fullQuantum t)) (waking now (t .parameters) (record { server = t .server; pending = q }) .account)
+          → Fits start now b (withBlocked false (fullQuantum t)) (waking now true (t .parameters) (record { server = t .server; pending = q }) .account)
       by true e = sent true Upper (wake-upper start now (t .parameters) now (record { server = t .server; pending = q }) slept g e)
       by false e = sent false Low (wake-low start now (t .parameters) now (record { server = t .server; pending = q }) slept e)
 

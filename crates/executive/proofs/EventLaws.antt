@@ -52,7 +52,7 @@ assigned-range start now lo b t q (sporadic n z g l v) d =
     (λ e. (omega (tests, g), omega (tests, g))) (λ e. (omega (tests, g), omega (tests, g))))
 
 -- a wake changes neither capacity nor count, so not the assigned priority
-waking-same : (now : ℕ) (p : Parameters) (a : Account) → (waking now p a .account .server .capacity ≡ a .server .capacity) × (waking now p a .account .pending ≡ a .pending)
+waking-same : (now : ℕ) (p : Parameters) (a : Account) → (waking now true p a .account .server .capacity ≡ a .server .capacity) × (waking now true p a .account .pending ≡ a .pending)
 waking-same now p a = go (isUpper p a)
   where
     go : (b : Bool) → (cond b (outcome (activated now a) Upper) (outcome a Low) .account .server .capacity ≡ a .server .capacity)
@@ -61,14 +61,14 @@ waking-same now p a = go (isUpper p a)
     go false = (refl, refl)
 
 wake-assigned : (now : ℕ) (t : Thread) (q : Pending)
-    → placeOf (withServer (ifSporadic t (waking now (t .parameters) (record { server = t .server; pending = q }) .account) (record { server = t .server; pending = q }) .server) (withBlocked false (fullQuantum t)))
-    (ifSporadic t (waking now (t .parameters) (record { server = t .server; pending = q }) .account) (record { server = t .server; pending = q }) .pending .count)
+    → placeOf (withServer (ifSporadic t (waking now true (t .parameters) (record { server = t .server; pending = q }) .account) (record { server = t .server; pending = q }) .server) (withBlocked false (fullQuantum t)))
+    (ifSporadic t (waking now true (t .parameters) (record { server = t .server; pending = q }) .account) (record { server = t .server; pending = q }) .pending .count)
     ≡ assigned t (q .count)
 wake-assigned now t q =
     ap (λ (u : Bool). byPolicy (t .parameters .policy) (t .parameters .priority) (t .parameters .priority) (cond u (t .parameters .priority) (t .parameters .low))) (go (t .parameters .policy))
   where
     new : Account
-    new = waking now (t .parameters) (record { server = t .server; pending = q }) .account
+    new = waking now true (t .parameters) (record { server = t .server; pending = q }) .account
 
     same : atUpper (t .parameters) (new .server .capacity) (new .pending .count) ≡ atUpper (t .parameters) (t .server .capacity) (q .count)
     same =

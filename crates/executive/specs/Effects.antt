@@ -31,7 +31,7 @@ ifSporadic t new a = byPolicy (t .parameters .policy) a a new
 abbrev pub block : ℕ → ℕ → Thread → State → State
 block p i t s =
     withLists (removed p i (s .lists))
-    (withAccount i (withBlocked true t) (ifSporadic t (blocking (s .now) (t .parameters) (accountAt s i) .account) (accountAt s i)) s)
+    (withAccount i (withBlocked true t) (ifSporadic t (blocking (s .now) false (t .parameters) (accountAt s i) .account) (accountAt s i)) s)
 
 -- Events 4: the running thread i becomes the tail of its list p; the activation time stays
 abbrev pub yield : ℕ → ℕ → Thread → State → State
@@ -41,7 +41,7 @@ yield p i t s = withLists (moved i p p (s .lists)) (withThread i (fullQuantum t)
 abbrev pub wake : ℕ → Thread → State → State
 wake i t s =
     withLists (appended (assigned t (getD (s .counts) i 0)) i (s .lists))
-    (withAccount i (withBlocked false (fullQuantum t)) (ifSporadic t (waking (s .now) (t .parameters) (accountAt s i) .account) (accountAt s i)) s)
+    (withAccount i (withBlocked false (fullQuantum t)) (ifSporadic t (waking (s .now) true (t .parameters) (accountAt s i) .account) (accountAt s i)) s)
 
 -- State 17: no account
 abbrev pub noAccount : Account

@@ -368,7 +368,7 @@ module _ (r : Turn) where
       -- the rule, on the state as it is charged
       abbrev rule : State → ℕ → Outcome
       rule y n =
-          cond (eqb m l) (limitReached (y .now) (threadAt y n .parameters) (accountAt y n))
+          cond (eqb m l) (limitReached (y .now) false (threadAt y n .parameters) (accountAt y n))
           (returning (y .now) (threadAt y n .blocked) (threadAt y n .parameters) (accountAt y n))
 
       on-charged : Acted r c j (rule c j)
@@ -380,7 +380,7 @@ module _ (r : Turn) where
               (subst⁻¹ (Acted r c (head s)) (cond-true (eqb m l) _ _ q)
               (record {
                 sendable =
-                    subst⁻¹ (λ (y : Thread). Sendable (s .word) (head s) (y .parameters) (s .lists) (limitReached (c .now) (threadAt c (head s) .parameters) (accountAt c (head s)) .place))
+                    subst⁻¹ (λ (y : Thread). Sendable (s .word) (head s) (y .parameters) (s .lists) (limitReached (c .now) false (threadAt c (head s) .parameters) (accountAt c (head s)) .place))
                     (limit-thread (λ i. s .now - 1) s (g .mid) (some b) (limited q) (later b))
                     (limited-sendable (λ i. s .now - 1) s (g .mid) (some b) (limited q) (later b) (not-rr q) _ (limit-not-upper (c .now) (threadAt c (head s) .parameters) (accountAt c (head s))));
                 going = subst⁻¹ (Going s₀ t) (limited-is (λ i. s .now - 1) s (g .mid) (some b) (limited q) (later b) (not-rr q)) (turn-limit s₀ s t g (some b) (by b) top (limited q) .0);
@@ -409,11 +409,11 @@ module _ (r : Turn) where
 
       -- and on the state in place
       pub acts : (a : Pending) (o : Outcome) → a ≡ pendingAt u j
-          → o ≡ cond (eqb m l) (limitReached m (threadAt u j .parameters) (record { server = threadAt u j .server; pending = a }))
+          → o ≡ cond (eqb m l) (limitReached m false (threadAt u j .parameters) (record { server = threadAt u j .server; pending = a }))
           (returning m (threadAt u j .blocked) (threadAt u j .parameters) (record { server = threadAt u j .server; pending = a }))
           → Acted r u j o
       acts a o e f =
           subst⁻¹ (Acted r u j)
-          (f ∙ ap (λ (y : Pending). cond (eqb m l) (limitReached m (threadAt u j .parameters) (record { server = threadAt u j .server; pending = y }))
+          (f ∙ ap (λ (y : Pending). cond (eqb m l) (limitReached m false (threadAt u j .parameters) (record { server = threadAt u j .server; pending = y }))
           (returning m (threadAt u j .blocked) (threadAt u j .parameters) (record { server = threadAt u j .server; pending = y }))) e)
           (subst⁻¹ (λ (y : State). Acted r y j (rule y j)) charged-is on-charged)

@@ -158,7 +158,7 @@ module _ {A : Type 0} (f : State → A) (fo : (i : ℕ) (o : Outcome) (s : State
       (λ e. policy-elim (λ (u : State). f u ≡ f s) (t .parameters .policy) _ _ _
       (λ c. refl)
       (λ c. cond-elim (λ (u : State). f u ≡ f s) (eqb (t .left) 0) (quantumEnded (level s) (head s) t s) s (λ d. fq (level s) (head s) t s) (λ d. refl))
-      (λ c. cond-elim (λ (u : State). f u ≡ f s) (eqb (level s) (t .parameters .priority) && eqb (t .server .capacity) 0) _ s (λ d. fo (head s) (limitReached (s .now) (t .parameters) (accountAt s (head s))) s) (λ d. refl)))
+      (λ c. cond-elim (λ (u : State). f u ≡ f s) (eqb (level s) (t .parameters .priority) && eqb (t .server .capacity) 0) _ s (λ d. fo (head s) (limitReached (s .now) false (t .parameters) (accountAt s (head s))) s) (λ d. refl)))
 
   pub keeps-fire : (s : State) → f (fire s) ≡ f s
   unfolding fire

@@ -236,14 +236,14 @@ module _ (lo lo′ : ℕ → ℕ) (k : ℕ) (s : State) (h : SoundFrom lo s) (e 
         with-server x = record { server = x; pending = pendingAt s (head s) }
 
     limits-is : limits (ranState k s)
-        ≡ withLists (sentTo (limitReached (s .now + k) p spent .place) i p (s .lists)) (withAccount i ended (limitReached (s .now + k) p spent .account) (ranState k s))
+        ≡ withLists (sentTo (limitReached (s .now + k) false p spent .place) i p (s .lists)) (withAccount i ended (limitReached (s .now + k) false p spent .account) (ranState k s))
     unfolding i p ended spent
     limits-is =
         limits-ran
         ∙ by-two (ended .parameters .policy) _ _ _ z
         ∙ cond-true (eqb (level s) (p .priority) && eqb (ended .server .capacity) 0) _ _ both
-        ∙ ap (λ (a : Account). withOutcome i (limitReached (s .now + k) p a) (ranState k s)) account-is
-        ∙ ap (λ (t : Thread). withLists (sentTo (limitReached (s .now + k) p spent .place) i (t .parameters) (s .lists)) (withAccount i t (limitReached (s .now + k) p spent .account) (ranState k s))) there
+        ∙ ap (λ (a : Account). withOutcome i (limitReached (s .now + k) false p a) (ranState k s)) account-is
+        ∙ ap (λ (t : Thread). withLists (sentTo (limitReached (s .now + k) false p spent .place) i (t .parameters) (s .lists)) (withAccount i t (limitReached (s .now + k) false p spent .account) (ranState k s))) there
       where
         none : threadAt s (head s) .server .capacity - k ≡ 0
         none = omega arith
@@ -302,10 +302,10 @@ module _ (lo lo′ : ℕ → ℕ) (k : ℕ) (s : State) (h : SoundFrom lo s) (e 
 
         by : (b : Bool) → dueNow (s .now + k) p (spent .server) ≡ b
             → SoundFrom (withBound lo′ i (lo′ i))
-            (withLists (sentTo (limitReached (s .now + k) p spent .place) i p (s .lists)) (withAccount i ended (limitReached (s .now + k) p spent .account) (ranState k s)))
+            (withLists (sentTo (limitReached (s .now + k) false p spent .place) i p (s .lists)) (withAccount i ended (limitReached (s .now + k) false p spent .account) (ranState k s)))
         by true e =
-            sent-sound true LowThenUpper (limitReached (s .now + k) p spent)
+            sent-sound true LowThenUpper (limitReached (s .now + k) false p spent)
             (limit-once-sound (s .header .start) (s .now + k) p (lo′ i) spent spent-sound (omega (arith, room .0)) (room .1) (omega (tests, h .sizes)) e) to-upper
         by false e =
-            sent-sound false Low (limitReached (s .now + k) p spent)
+            sent-sound false Low (limitReached (s .now + k) false p spent)
             (limit-later-sound (s .header .start) (s .now + k) p (lo′ i) spent spent-sound (omega (arith, room .0)) (room .1) low (omega (tests, g)) (omega arith) e) to-low

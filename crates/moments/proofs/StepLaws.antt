@@ -62,7 +62,7 @@ upper-low e = differ (cc)
 upper-then : Upper ≡ LowThenUpper → ⊥
 upper-then e = differ (cc)
 
-pub limit-not-upper : (now : ℕ) (p : Parameters) (a : Account) → limitReached now p a .place ≡ Upper → ⊥
+pub limit-not-upper : (now : ℕ) (p : Parameters) (a : Account) → limitReached now false p a .place ≡ Upper → ⊥
 unfolding limitReached
 limit-not-upper now p a =
     cond-elim (λ (o : Outcome). o .place ≡ Upper → ⊥) (ltb 0 (a .server .used) && dueNow now p (a .server)) (outcome (activated now (scheduled now p a)) LowThenUpper)
@@ -176,14 +176,14 @@ module _ (lo : ℕ → ℕ) (s : State) (a : SoundFrom lo s) (p : 0 < next s) (e
         ran-upper (level s) (next s - s .now) (threadAt s (head s)) (sporadic-here .policy) (eq-eqb (level s) (threadAt s (head s) .parameters .priority) at-upper)
 
     pub limited-is : withOutcome (head s)
-        (limitReached (charge (next s - s .now) s .now) (threadAt (charge (next s - s .now) s) (head s) .parameters) (accountAt (charge (next s - s .now) s) (head s)))
+        (limitReached (charge (next s - s .now) s .now) false (threadAt (charge (next s - s .now) s) (head s) .parameters) (accountAt (charge (next s - s .now) s) (head s)))
         (charge (next s - s .now) s)
         ≡ limits (charge (next s - s .now) s)
     limited-is =
         sym (limits-are ∙ by-more (threadAt s (head s) .parameters .policy) _ _ _ not-fifo d
         ∙ cond-true (eqb (level s) (threadAt s (head s) .parameters .priority) && eqb (ran (level s) (next s - s .now) (threadAt s (head s)) .server .capacity) 0) _ _
         (both _ _ (eq-eqb (level s) (threadAt s (head s) .parameters .priority) at-upper) (eq-eqb _ 0 (ap (λ (x : Server). x .capacity) server-is ∙ none)))
-        ∙ ap (λ (x : Parameters). withOutcome (head s) (limitReached (s .now + (next s - s .now)) x (accountAt (charge (next s - s .now) s) (head s))) (charge (next s - s .now) s))
+        ∙ ap (λ (x : Parameters). withOutcome (head s) (limitReached (s .now + (next s - s .now)) false x (accountAt (charge (next s - s .now) s) (head s))) (charge (next s - s .now) s))
         (sym (ap (λ (x : Thread). x .parameters) limit-thread)))
       where
         both : (x y : Bool) → x ≡ true → y ≡ true → (x && y) ≡ true

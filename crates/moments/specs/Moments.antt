@@ -1,6 +1,6 @@
 -- What happens at a moment, and the passing of time.
 use Prim.Native.Nat.{ℕ, zero, suc}
-use mathlib.Core.Bool.{Bool, cond, _&&_}
+use mathlib.Core.Bool.{Bool, false, cond, _&&_}
 use lib.Dec.{eqb}
 use Rattle.records.specs.Tests.{byPolicy}
 use Rattle.account.specs.Rules.{limitReached, firstIsDue, returning}
@@ -22,7 +22,7 @@ limitsOf p i t s =
     byPolicy (t .parameters .policy) s
     (cond (eqb (t .left) 0) (quantumEnded p i t s) s)
     (cond (eqb p (t .parameters .priority) && eqb (t .server .capacity) 0)
-    (withOutcome i (limitReached (s .now) (t .parameters) (accountAt s i)) s)
+    (withOutcome i (limitReached (s .now) false (t .parameters) (accountAt s i)) s)
     s)
 
 unfoldable pub limits : State → State

@@ -315,11 +315,11 @@ fn concerned(limited: bool, runs: usize, due: usize) -> usize
 // What happens to that thread's account.
 fn outcome_at(limited: bool, time: u64, t: Thread, a: Account) -> Outcome
     requires { ⌜ (limited ≡ true → (a .server .activation + t .parameters .period < 2 ^ 64) × (0 < a .server .used → a .pending .count < 8)) ⌝ }
-    ensures { λ r. ⌜ r ≡ cond limited (limitReached time (t .parameters) a) (returning time (t .blocked) (t .parameters) a) ⌝ }
+    ensures { λ r. ⌜ r ≡ cond limited (limitReached time false (t .parameters) a) (returning time (t .blocked) (t .parameters) a) ⌝ }
 {
     let p = t.parameters;
     if limited {
-        return account::limit_reached(p, a, time);
+        return account::limit_reached(p, a, false, time);
     }
     account::return_due(p, a, t.blocked, time)
 }
