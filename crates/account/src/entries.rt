@@ -6,7 +6,7 @@ use super::ENTRIES;
 use super::Pending;
 
 // One more pending replenishment.
-pub fn push(q: Pending, due: u64, amount: u64) -> Pending
+pub(super) fn push(q: Pending, due: u64, amount: u64) -> Pending
     requires { ⌜ q .count < 8 ⌝ }
     ensures { λ r. ⌜ r ≡ withEntry due amount q ⌝ }
 {
@@ -18,7 +18,7 @@ pub fn push(q: Pending, due: u64, amount: u64) -> Pending
     r
 }
 
-pub fn wide(x: u8) -> usize
+pub(super) fn wide(x: u8) -> usize
     ensures { λ r. ⌜ r ≡ x ⌝ }
 {
     x as usize
@@ -39,7 +39,7 @@ fn shift(xs: [u64; ENTRIES]) -> [u64; ENTRIES]
 }
 
 // The pending replenishments without the first.
-pub fn without_first(q: Pending) -> Pending
+pub(super) fn without_first(q: Pending) -> Pending
     requires { ⌜ 0 < q .count ⌝ }
     ensures { λ r. ⌜ r ≡ withoutFirst q ⌝ }
 {

@@ -10,7 +10,7 @@ use super::Server;
 use records::Parameters;
 
 // One of two numbers.
-pub fn either(first: bool, a: u64, b: u64) -> u64
+pub(super) fn either(first: bool, a: u64, b: u64) -> u64
     ensures { λ r. ⌜ r ≡ cond first a b ⌝ }
 {
     if first {
@@ -20,7 +20,14 @@ pub fn either(first: bool, a: u64, b: u64) -> u64
 }
 
 // The count, U and the activation time. `up`: runnable at the upper priority.
-pub fn numbers_hold(p: Parameters, s: Server, count: u8, up: bool, start: u64, now: u64) -> bool
+pub(super) fn numbers_hold(
+    p: Parameters,
+    s: Server,
+    count: u8,
+    up: bool,
+    start: u64,
+    now: u64,
+) -> bool
     ensures { λ r. ⌜ r ≡ all (numberTests start now up p s count) ⌝ }
 {
     if p.max_repl < count {
@@ -42,7 +49,7 @@ pub fn numbers_hold(p: Parameters, s: Server, count: u8, up: bool, start: u64, n
 }
 
 // The n amounts are at least 1, and with what is held they make the budget.
-pub fn amounts_hold(
+pub(super) fn amounts_hold(
     budget: u64,
     capacity: u64,
     used: u64,
@@ -75,7 +82,7 @@ pub fn amounts_hold(
 }
 
 // The n dues strictly rise, the first after `after`, and are less than `period` after `base`.
-pub fn dues_hold(dues: [u64; ENTRIES], n: usize, after: u64, base: u64, period: u64) -> bool
+pub(super) fn dues_hold(dues: [u64; ENTRIES], n: usize, after: u64, base: u64, period: u64) -> bool
     requires { ⌜ (n ≤ 8) × (base ≤ after) ⌝ }
     ensures { λ r. ⌜ r ≡ all (dueTests after (base + period) (take n dues)) ⌝ }
 {
@@ -96,7 +103,7 @@ pub fn dues_hold(dues: [u64; ENTRIES], n: usize, after: u64, base: u64, period: 
 }
 
 // The places from n on hold 0.
-pub fn places_hold(xs: [u64; ENTRIES], n: usize) -> bool
+pub(super) fn places_hold(xs: [u64; ENTRIES], n: usize) -> bool
     ensures { λ r. ⌜ r ≡ all (placeTests n xs) ⌝ }
 {
     let mut i = n;

@@ -4,8 +4,10 @@ use mathlib.Core.Bool.{cond, _&&_}
 use mathlib.Core.Path.{_≡_, refl}
 use mathlib.Core.List.{List, [], _∷_, map}
 use lib.Dec.{ltb, leb, eqb}
+use native.Mathlib.Omega.{arith}
 use Rattle.passing.specs.Time.{Clock, run}
 use Rattle.passing.specs.Sequence.{Machine, Answer, firstOf, status, answer, answers}
+use Rattle.passing.specs.Readings.{Entry, Placed}
 
 -- ticks left up to the next moment, 0 once it is stopped
 pub record Timer : Type 0 where
@@ -89,3 +91,28 @@ unsound-rows : Computed (record { now = 0; left = 6; period = 5 })
     ∷ [])
 unfolding run firstOf status answer
 unsound-rows = refl
+
+-- A row: the times of extra clock readings, and the time and the kind of the request that they stand before.
+abbrev before : List ℕ → ℕ → ℕ → List (Entry Request)
+before ts t k = record { times = ts; event = record { time = t; kind = k } } ∷ []
+
+abbrev fifth : Timer
+fifth = record { now = 5; left = 5; period = 5 }
+
+-- from the time now up to the request's time
+placed-row : Placed timer fifth fifth (before (5 ∷ 6 ∷ 6 ∷ 7 ∷ []) 7 0)
+unfolding run firstOf status answer
+placed-row = ((omega arith, (omega arith, (omega arith, (omega arith, (omega arith, omega arith))))), tt)
+
+-- a tick before the time now
+early-row : Placed timer fifth fifth (before (4 ∷ []) 7 0) → ⊥
+early-row h = omega (arith, h .0 .1 .0)
+
+-- a tick after the request's time
+late-row : Placed timer fifth fifth (before (8 ∷ []) 7 0) → ⊥
+late-row h = omega (arith, h .0 .1 .1)
+
+-- before a request that is refused: there is no such kind
+refused-row : Placed timer fifth fifth (before (6 ∷ []) 7 2) → ⊥
+unfolding run firstOf status answer
+refused-row h = omega (arith, h .0 .0)
