@@ -20,6 +20,20 @@ Inv-loop budget capacity used n amounts left₀ i₀ left i =
 abbrev μ-loop : tie.MeasureT-loop
 μ-loop budget capacity used n amounts left₀ i₀ left i = n - i
 
+-- what is held and what is left of the budget
+left-of : (budget capacity used : ℕ) → capacity ≤ budget → used ≤ budget - capacity
+    → (budget - capacity - used ≤ budget) × (budget - (budget - capacity - used) ≡ capacity + used)
+left-of budget capacity used h k = (omega arith, omega arith)
+
+left-less : (budget left x : ℕ) → left ≤ budget → x ≤ left → (left - x ≤ budget) × (budget - (left - x) ≡ budget - left + x)
+left-less budget left x h k = (omega arith, omega arith)
+
+left-over : (budget left x : ℕ) → left ≤ budget → left < x → budget < budget - left + x
+left-over budget left x h k = omega arith
+
+held-over : (budget capacity used : ℕ) → capacity ≤ budget → budget - capacity < used → budget < capacity + used
+held-over budget capacity used h k = omega arith
+
 returns : tie.Need-returns Inv-loop μ-loop
 returns c =
     let a = c .before .args in
@@ -28,7 +42,7 @@ returns c =
 returns-2 : tie.Need-returns-2 Inv-loop μ-loop
 returns-2 c =
     let a = c .before .before .args in
-    sym (amount-held (a .budget) (a .capacity + a .used) (take (a .n) (a .t4)) (omega arith))
+    sym (amount-held (a .budget) (a .capacity + a .used) (take (a .n) (a .t4)) (held-over (a .budget) (a .capacity) (a .used) (c .before .if1 .left) (c .if2 .taken)))
 
 sub-left : tie.Need-sub-left Inv-loop μ-loop
 sub-left c = omega arith
@@ -36,8 +50,8 @@ sub-left c = omega arith
 loop-holds : tie.Need-loop-holds Inv-loop μ-loop
 loop-holds c =
     let a = c .before .before .args in
-    let e : a .budget - (a .budget - a .capacity - a .used) ≡ a .capacity + a .used = omega arith in
-    (omega arith, omega arith, ap (λ (h : ℕ). all (amountTests (a .budget) h (take (a .n) (a .t4)))) e)
+    let e = left-of (a .budget) (a .capacity) (a .used) (c .before .if1 .left) (c .if2 .left) in
+    (omega arith, e .0, ap (λ (h : ℕ). all (amountTests (a .budget) h (take (a .n) (a .t4)))) (e .1))
 
 mul-x : tie.Need-mul-x Inv-loop μ-loop
 mul-x c = omega arith
@@ -52,14 +66,14 @@ returns-3 : tie.Need-returns-3 Inv-loop μ-loop
 returns-3 c =
     let b = c .before .before in
     let a = b .before .before .before .args in
-    sym (amount-none (a .n) (b .loop .i) (a .t4) (omega arith) (omega arith) (a .budget) (a .budget - b .loop .left) (c .if3 .taken))
+    sym (amount-none (a .n) (b .loop .i) (a .t4) (c .before .loop-test .taken) (omega arith) (a .budget) (a .budget - b .loop .left) (c .if3 .taken))
     ∙ b .loop .inv .2
 
 returns-4 : tie.Need-returns-4 Inv-loop μ-loop
 returns-4 c =
     let b = c .before .before .before in
     let a = b .before .before .before .args in
-    sym (amount-over (a .n) (b .loop .i) (a .t4) (omega arith) (omega arith) (a .budget) (a .budget - b .loop .left) (omega arith))
+    sym (amount-over (a .n) (b .loop .i) (a .t4) (c .before .before .loop-test .taken) (omega arith) (a .budget) (a .budget - b .loop .left) (left-over (a .budget) (b .loop .left) _ (b .loop .inv .1) (c .if4 .taken)))
     ∙ b .loop .inv .2
 
 loop-less : tie.Need-loop-less Inv-loop μ-loop
@@ -70,11 +84,11 @@ loop-again c =
     let b = c .before .before .before in
     let a = b .before .before .before .args in
     let x = getD (a .t4) (b .loop .i) 0 in
-    let e : a .budget - (b .loop .left - x) ≡ a .budget - b .loop .left + x = omega arith in (
+    let e = left-less (a .budget) (b .loop .left) x (b .loop .inv .1) (c .if4 .left) in (
       omega arith,
-      omega arith,
-      ap (λ (h : ℕ). all (amountTests (a .budget) h (drop (b .loop .i + 1) (take (a .n) (a .t4))))) e
-          ∙ sym (amount-step (a .n) (b .loop .i) (a .t4) (omega arith) (omega arith) (a .budget) (a .budget - b .loop .left) (omega arith))
+      e .0,
+      ap (λ (h : ℕ). all (amountTests (a .budget) h (drop (b .loop .i + 1) (take (a .n) (a .t4))))) (e .1)
+          ∙ sym (amount-step (a .n) (b .loop .i) (a .t4) (c .before .before .loop-test .taken) (omega arith) (a .budget) (a .budget - b .loop .left) (c .before .if3 .left))
           ∙ b .loop .inv .2,
     )
 
@@ -82,8 +96,8 @@ returns-5 : tie.Need-returns-5 Inv-loop μ-loop
 returns-5 c =
     let b = c .before in
     let a = b .before .before .before .args in
-    amount-end (a .budget) (b .loop .left) (omega arith)
-    ∙ sym (ap (λ (ys : List ℕ). all (amountTests (a .budget) (a .budget - b .loop .left) ys)) (no-place (a .n) (b .loop .i) (a .t4) (omega arith) (omega arith)))
+    amount-end (a .budget) (b .loop .left) (b .loop .inv .1)
+    ∙ sym (ap (λ (ys : List ℕ). all (amountTests (a .budget) (a .budget - b .loop .left) ys)) (no-place (a .n) (b .loop .i) (a .t4) (c .loop-test .left) (omega arith)))
     ∙ b .loop .inv .2
 
 pub amounts-hold-spec : {M : Type 1} → statement M

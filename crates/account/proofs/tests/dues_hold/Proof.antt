@@ -36,7 +36,7 @@ returns : tie.Need-returns Inv-loop μ-loop
 returns c =
     let b = c .before .before in
     let a = b .before .args in
-    sym (due-early (a .n) (b .loop .i) (a .t1) (omega arith) (omega arith) (b .loop .last) (a .base + a .period) (c .if1 .taken)) ∙ b .loop .inv .2
+    sym (due-early (a .n) (b .loop .i) (a .t1) (c .before .loop-test .taken) (omega arith) (b .loop .last) (a .base + a .period) (c .if1 .taken)) ∙ b .loop .inv .2
 
 sub-if2 : tie.Need-sub-if2 Inv-loop μ-loop
 sub-if2 c = omega arith
@@ -45,7 +45,7 @@ returns-2 : tie.Need-returns-2 Inv-loop μ-loop
 returns-2 c =
     let b = c .before .before .before in
     let a = b .before .args in
-    sym (due-late (a .n) (b .loop .i) (a .t1) (omega arith) (omega arith) (b .loop .last) (a .base + a .period) (omega arith)) ∙ b .loop .inv .2
+    sym (due-late (a .n) (b .loop .i) (a .t1) (c .before .before .loop-test .taken) (omega arith) (b .loop .last) (a .base + a .period) (omega arith)) ∙ b .loop .inv .2
 
 loop-less : tie.Need-loop-less Inv-loop μ-loop
 loop-less c = omega arith
@@ -56,7 +56,7 @@ loop-again c =
     let a = b .before .args in (
       omega arith,
       omega arith,
-      sym (due-step (a .n) (b .loop .i) (a .t1) (omega arith) (omega arith) (b .loop .last) (a .base + a .period) (omega arith) (omega arith)) ∙ b .loop .inv .2,
+      sym (due-step (a .n) (b .loop .i) (a .t1) (c .before .before .loop-test .taken) (omega arith) (b .loop .last) (a .base + a .period) (c .before .if1 .left) (omega arith)) ∙ b .loop .inv .2,
     )
 
 returns-3 : tie.Need-returns-3 Inv-loop μ-loop
@@ -64,7 +64,7 @@ unfolding all
 returns-3 c =
     let b = c .before in
     let a = b .before .args in
-    sym (ap (λ (ys : List ℕ). all (dueTests (b .loop .last) (a .base + a .period) ys)) (no-place (a .n) (b .loop .i) (a .t1) (omega arith) (omega arith))) ∙ b .loop .inv .2
+    sym (ap (λ (ys : List ℕ). all (dueTests (b .loop .last) (a .base + a .period) ys)) (no-place (a .n) (b .loop .i) (a .t1) (c .loop-test .left) (omega arith))) ∙ b .loop .inv .2
 
 pub dues-hold-spec : {M : Type 1} → statement M
 dues-hold-spec =
