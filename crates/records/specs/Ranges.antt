@@ -71,3 +71,7 @@ inRange most p =
 -- Status 7: no parameter other than 0, the start flag included
 unfoldable pub allZero : Parameters → Bool
 allZero p = all (eqb (p .policy) 0 ∷ eqb (p .priority) 0 ∷ eqb (p .flag) 0 ∷ fifoInRange p ∷ [])
+
+-- State 17: parameters of zeros, what stands past the last thread of a table
+abbrev pub noParameters : Parameters
+noParameters = record { policy = 0; priority = 0; low = 0; «max_repl» = 0; flag = 0; budget = 0; period = 0 }
