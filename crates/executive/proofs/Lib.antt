@@ -1,6 +1,7 @@
--- Laws of the executive.
-pub mod EffectLaws
-pub mod EventLaws
-pub mod OpeningLaws
-pub mod DemandLaws
-pub mod Computed
+-- Laws for the executive's functions.
+pub mod StatusLaws
+pub mod StateLaws
+pub mod RequiresLaws
+pub mod AnswerLaws
+pub mod StepLaws
+pub mod OpenLaws

@@ -1,6 +1,2 @@
--- What a reader of `executive` must believe.
-pub mod Effects
-pub mod Answers
-pub mod Opening
-pub mod Demand
-pub mod Table
+-- What a reader of `executive` must believe, over the definitions of `events`.
+pub mod Answer

@@ -10,7 +10,7 @@ ghost use Rattle.ready.specs.Word.{occupancy, highestOf};
 ghost use Rattle.ready.specs.Rules.{Held, Movable};
 ghost use Rattle.passing.specs.Time.{dueBy};
 ghost use Rattle.state.specs.Sound.{soundState};
-ghost use Rattle.moments.specs.Running.{ran, earlier, limitOf, nextDue};
+ghost use Rattle.moments.specs.Running.{ran, earlier, limitOf, sooner, nextDue};
 ghost use Rattle.moments.specs.Changes.{withServer, withLeft, sentTo};
 ghost use Rattle.moments.specs.Moments.{passed};
 use account::Account;
@@ -28,38 +28,37 @@ pub struct Due {
 }
 
 // Of the first n threads that have a replenishment pending: the least first due and the lowest thread that has it.
-pub fn next_due<'a>(counts: &'a [u8; 32], dues: &'a [u64; 256], n: usize) -> Due
+fn next_due<'a>(counts: &'a [u8; 32], dues: &'a [u64; 256], n: usize) -> Due
     requires { ⌜ n ≤ 32 ⌝ }
     ensures { λ r. ⌜ r ≡ nextDue (now (counts .entry)) (now (dues .entry)) n ⌝ }
 {
-    let mut due: u64 = 0;
-    let mut who: usize = 32;
+    let mut best = Due { due: 0, thread: 32 };
     let mut i: usize = 0;
     while i < n {
-        let k = i;
+        best = sooner_of(best, i, counts[i], dues[i * 8]);
         i = i + 1;
-        if counts[k] == 0 {
-            continue;
-        }
-        let d = dues[k * 8];
-        if who == 32 {
-            due = d;
-            who = k;
-            continue;
-        }
-        if d < due {
-            due = d;
-            who = k;
-        }
     }
-    Due {
-        due: due,
-        thread: who,
+    best
+}
+
+// The sooner of the best so far and thread k, whose first due is d and which has `count` pending.
+fn sooner_of(best: Due, k: usize, count: u8, d: u64) -> Due
+    ensures { λ r. ⌜ r ≡ cond (eqb count 0) best (sooner k d best) ⌝ }
+{
+    if count == 0 {
+        return best;
     }
+    if best.thread == 32 {
+        return Due { due: d, thread: k };
+    }
+    if d < best.due {
+        return Due { due: d, thread: k };
+    }
+    best
 }
 
 // The earlier of two moments, 0 for none.
-pub fn earlier_of(a: u64, b: u64) -> u64
+fn earlier_of(a: u64, b: u64) -> u64
     ensures { λ r. ⌜ r ≡ earlier a b ⌝ }
 {
     if a == 0 {
@@ -85,7 +84,7 @@ fn due_by(m: u64, t: u64) -> bool
 }
 
 // When a thread that runs in list p reaches its limit or the end of its quantum, 0 for never.
-pub fn limit_of(time: u64, p: u8, t: Thread) -> u64
+fn limit_of(time: u64, p: u8, t: Thread) -> u64
     requires { ⌜ (time + t .left < 2 ^ 64) × (time + t .server .capacity < 2 ^ 64) ⌝ }
     ensures { λ r. ⌜ r ≡ limitOf time p t ⌝ }
 {
@@ -383,9 +382,9 @@ pub fn advance(s0: State, t: u64) -> State
         let parameters = w.parameters;
         let word = s.word;
         let number = narrow(j);
-        s.word = send(&mut s.lists, word, number, parameters, place);
         let changed = with_server(w, served);
         s.threads[j] = changed;
+        s.word = send(&mut s.lists, word, number, parameters, place);
         s.counts[j] = pending.count;
         state::write_row(&mut s.dues, j, dues);
         state::write_row(&mut s.amounts, j, amounts);

@@ -10,7 +10,7 @@ use native.Mathlib.Omega.{arith}
 use borrow.Author.Tests.{eqb-true, eq-eqb, lt-ltb, not-true}
 use Rattle.records.specs.declared.Parameters.{Parameters}
 use Rattle.records.specs.Tests.{all, below, zeros, byPolicy}
-use Rattle.records.specs.Ranges.{inRange, allZero, fifoInRange, rrInRange, sporadicInRange}
+use Rattle.records.specs.Ranges.{inRange, allZero, fifoInRange, rrInRange, sporadicInRange, noParameters}
 use Rattle.records.proofs.TestLaws.{tests, All, all-true, true-all, below-at, at-below, zeros-eq, zeros-replicate, false-true, cond-true, cond-false}
 use Rattle.account.specs.declared.Server.{Server}
 use Rattle.account.specs.declared.Pending.{Pending}
@@ -21,7 +21,7 @@ use Rattle.ready.specs.Sound.{soundLists}
 use Rattle.ready.proofs.Soundness.{ListsSound, sound-true, true-sound}
 use Rattle.state.specs.declared.Thread.{Thread}
 use Rattle.state.specs.declared.State.{State}
-use Rattle.state.specs.State.{noParameters, noServer, noThread, threadAt, rowAt, pendingAt, accountAt, place}
+use Rattle.state.specs.State.{noServer, noThread, threadAt, rowAt, pendingAt, accountAt, place}
 use Rattle.state.specs.Sound.{noAccountTests, leftTests, accountTest, presentTest, absentTest, threadTest, totals, soundTests, soundState}
 
 -- nothing pending

@@ -3,9 +3,9 @@ use Prim.Native.Nat.{ℕ, _+_, _*_}
 use mathlib.Core.Bool.{Bool, false, cond}
 use mathlib.Core.List.{List, _++_}
 use lib.ListN.{length, take, drop, getD, set}
-use Rattle.records.specs.declared.Parameters.{Parameters}
 use Rattle.records.specs.declared.Header.{Header}
 use Rattle.records.specs.Tests.{byPolicy}
+use Rattle.records.specs.Ranges.{noParameters}
 use Rattle.account.specs.declared.Server.{Server}
 use Rattle.account.specs.declared.Pending.{Pending}
 use Rattle.account.specs.declared.Account.{Account}
@@ -13,10 +13,7 @@ use Rattle.account.specs.Account.{entries, atUpper}
 use Rattle.state.specs.declared.Thread.{Thread}
 use Rattle.state.specs.declared.State.{State}
 
--- no parameters, no account, no thread: what a place past N holds
-abbrev pub noParameters : Parameters
-noParameters = record { policy = 0; priority = 0; low = 0; «max_repl» = 0; flag = 0; budget = 0; period = 0 }
-
+-- State 17: no account, no thread: what a place past N holds
 abbrev pub noServer : Server
 noServer = record { capacity = 0; used = 0; activation = 0 }
 

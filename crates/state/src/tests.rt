@@ -77,7 +77,7 @@ fn account_holds(start: u64, now: u64, t: Thread, q: Pending) -> bool
 }
 
 // Whether a thread below N is sound.
-pub fn present_sound(start: u64, now: u64, t: Thread, q: Pending) -> bool
+fn present_sound(start: u64, now: u64, t: Thread, q: Pending) -> bool
     ensures { λ r. ⌜ r ≡ presentTest start now t q ⌝ }
 {
     let p = t.parameters;
@@ -94,7 +94,7 @@ pub fn present_sound(start: u64, now: u64, t: Thread, q: Pending) -> bool
 }
 
 // Whether a place from N on holds nothing.
-pub fn absent_zero(t: Thread, q: Pending) -> bool
+fn absent_zero(t: Thread, q: Pending) -> bool
     ensures { λ r. ⌜ r ≡ absentTest t q ⌝ }
 {
     let p = t.parameters;
@@ -115,7 +115,7 @@ pub fn absent_zero(t: Thread, q: Pending) -> bool
 }
 
 // The test of a place, with a thread (`present`) or without.
-pub fn thread_holds(present: bool, start: u64, now: u64, t: Thread, q: Pending) -> bool
+pub(super) fn thread_holds(present: bool, start: u64, now: u64, t: Thread, q: Pending) -> bool
     ensures { λ r. ⌜ r ≡ cond present (presentTest start now t q) (absentTest t q) ⌝ }
 {
     if present {

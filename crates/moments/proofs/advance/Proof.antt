@@ -255,23 +255,23 @@ acted c =
 narrow-requires : tie.Need-narrow-requires Inv-loop μ-loop
 narrow-requires c κs = omega (arith, small (c .before .before .before .before .before .before .before .before .before .before .before .before .before .before))
 
-send-requires : tie.Need-send-requires Inv-loop μ-loop
-send-requires c κs =
-    let o = c .before .before .before .before .before .before .before .before in
-    let u = stateOf o in
-    let r =
-    subst⁻¹ (λ (n : ℕ). Sendable (u .word) n (threadAt u (for o .concerned .result) .parameters) (u .lists) (o .outcome-at .result .place)) (c .before .narrow .ensures)
-    (acted o .sendable) in
-    (r .stays, r .low, r .both, r .upper)
-
 with-server-requires : tie.Need-with-server-requires Inv-loop μ-loop
 with-server-requires c κs = tt
 
 mul-changed : tie.Need-mul-changed Inv-loop μ-loop
-mul-changed c = omega (arith, small (c .before .before .before .before .before .before .before .before .before .before .before .before .before .before .before .before .before .before))
+mul-changed c = omega (arith, small (c .before .before .before .before .before .before .before .before .before .before .before .before .before .before .before .before))
 
 element-set-from-changed : tie.Need-element-set-from-changed Inv-loop μ-loop
-element-set-from-changed c = small (c .before .before .before .before .before .before .before .before .before .before .before .before .before .before .before .before .before .before)
+element-set-from-changed c = small (c .before .before .before .before .before .before .before .before .before .before .before .before .before .before .before .before)
+
+send-requires : tie.Need-send-requires Inv-loop μ-loop
+send-requires c κs =
+    let o = c .before .before .before .before .before .before .before .before .before in
+    let u = stateOf o in
+    let r =
+    subst⁻¹ (λ (n : ℕ). Sendable (u .word) n (threadAt u (for o .concerned .result) .parameters) (u .lists) (o .outcome-at .result .place)) (c .before .before .narrow .ensures)
+    (acted o .sendable) in
+    (r .stays, r .low, r .both, r .upper)
 
 element-write-s : tie.Need-element-write-s Inv-loop μ-loop
 element-write-s c = small (c .before .before .before .before .before .before .before .before .before .before .before .before .before .before .before .before .before .before)
@@ -286,16 +286,16 @@ loop-less-2 : tie.Need-loop-less-2 Inv-loop μ-loop
 loop-less-2 c =
     let o = c .before .before .before .before .before .before .before .before .before .before .before .before .before .before in
     subst⁻¹ (λ (y : State). weight (turnOf (of (for o)) .to) y < weight (turnOf (of (for o)) .to) (turnOf (of (for o)) .state))
-    (outcome-place (stateOf o) (for o .concerned .result) (o .outcome-at .result) (c .before .before .before .before .before .before .before .narrow .result) (c .before .before .before .before .before .send .result) (c .before .before .before .before .with-server .result) _ _ _
-    (c .before .before .before .before .before .before .before .narrow .ensures) (c .before .before .before .before .before .send .ensures .0) (c .before .before .before .before .before .send .ensures .1) (c .before .before .before .before .with-server .ensures) (c .before .before .write-row .ensures) (c .write-row2 .ensures))
+    (outcome-place (stateOf o) (for o .concerned .result) (o .outcome-at .result) (c .before .before .before .before .before .before .before .narrow .result) (c .before .before .before .before .send .result) (c .before .before .before .before .before .before .with-server .result) _ _ _
+    (c .before .before .before .before .before .before .before .narrow .ensures) (c .before .before .before .before .send .ensures .0) (c .before .before .before .before .send .ensures .1) (c .before .before .before .before .before .before .with-server .ensures) (c .before .before .write-row .ensures) (c .write-row2 .ensures))
     (acted o .falls)
 
 loop-again-2 : tie.Need-loop-again-2 Inv-loop μ-loop
 loop-again-2 c =
     let o = c .before .before .before .before .before .before .before .before .before .before .before .before .before .before in
     subst⁻¹ (Going (turnOf (of (for o)) .origin) (turnOf (of (for o)) .to))
-    (outcome-place (stateOf o) (for o .concerned .result) (o .outcome-at .result) (c .before .before .before .before .before .before .before .narrow .result) (c .before .before .before .before .before .send .result) (c .before .before .before .before .with-server .result) _ _ _
-    (c .before .before .before .before .before .before .before .narrow .ensures) (c .before .before .before .before .before .send .ensures .0) (c .before .before .before .before .before .send .ensures .1) (c .before .before .before .before .with-server .ensures) (c .before .before .write-row .ensures) (c .write-row2 .ensures))
+    (outcome-place (stateOf o) (for o .concerned .result) (o .outcome-at .result) (c .before .before .before .before .before .before .before .narrow .result) (c .before .before .before .before .send .result) (c .before .before .before .before .before .before .with-server .result) _ _ _
+    (c .before .before .before .before .before .before .before .narrow .ensures) (c .before .before .before .before .send .ensures .0) (c .before .before .before .before .send .ensures .1) (c .before .before .before .before .before .before .with-server .ensures) (c .before .before .write-row .ensures) (c .write-row2 .ensures))
     (acted o .going)
 
 pub advance-spec : {M : Type 1} → statement M
@@ -339,10 +339,10 @@ advance-spec =
     pending-at-requires
     outcome-at-requires
     narrow-requires
-    send-requires
     with-server-requires
     mul-changed
     element-set-from-changed
+    send-requires
     element-write-s
     write-row-requires
     write-row-requires-2

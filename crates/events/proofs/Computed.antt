@@ -1,0 +1,25 @@
+-- The worked table, by computing.
+use mathlib.Core.Path.{refl}
+use mathlib.Core.List.{_++_}
+use Rattle.records.specs.Tests.{all, below}
+use Rattle.records.specs.Ranges.{fifoInRange, rrInRange, sporadicInRange, inRange, allZero}
+use Rattle.account.specs.Rules.{scheduled, limitReached, allBack, returning}
+use Rattle.account.specs.Sound.{soundAt}
+use Rattle.ready.specs.Lists.{withThreads, without, occurs}
+use Rattle.ready.specs.Word.{wordOf, occupancy}
+use Rattle.ready.specs.Sound.{soundRow, soundRows, soundLists}
+use Rattle.passing.specs.Time.{run}
+use Rattle.passing.specs.Sequence.{firstOf, status, answer}
+use Rattle.state.specs.State.{withRow}
+use Rattle.state.specs.Sound.{presentTest, absentTest, soundState}
+use Rattle.moments.specs.Running.{nextDue}
+use Rattle.moments.specs.Moments.{limits, replenish, replenishBelow, fire}
+use Rattle.events.specs.Effects.{effect}
+use Rattle.events.specs.Answers.{fieldStatusOf, stateStatusOf}
+use Rattle.events.specs.Opening.{enteredBelow, openStatus, opening}
+use Rattle.events.specs.Table.{Holds, replay, instances}
+
+-- the replay's seven events and the five rows
+pub table-holds : Holds (replay ++ instances)
+unfolding lib.Count.leadingZeros all below fifoInRange rrInRange sporadicInRange inRange allZero scheduled limitReached allBack returning soundAt withThreads without occurs wordOf occupancy soundRow soundRows soundLists run firstOf status answer withRow presentTest absentTest soundState nextDue limits replenish replenishBelow fire effect fieldStatusOf stateStatusOf enteredBelow openStatus opening
+table-holds = refl

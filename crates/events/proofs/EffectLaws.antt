@@ -1,0 +1,141 @@
+-- Each effect leaves a sound state.
+use Prim.Native.Nat.{ℕ, zero, suc, _+_, _-_, _*_, _≤_, _<_}
+use mathlib.Core.Bool.{Bool, true, false, cond}
+use mathlib.Core.Path.{_≡_, refl, sym, ap, _∙_, subst, subst⁻¹}
+use mathlib.Core.List.{List, [], _∷_}
+use lib.ListN.{length, getD}
+use lib.Dec.{ltb, leb, eqb}
+use native.Mathlib.Omega.{arith}
+use native.Mathlib.Decide.{ℕ-discrete}
+use borrow.Author.Tests.{eqb-true, eqb-false, eq-eqb, ne-eqb}
+use Rattle.records.specs.declared.Parameters.{Parameters}
+use Rattle.records.specs.Tests.{byPolicy}
+use Rattle.records.specs.Ranges.{inRange, fifoInRange, rrInRange, sporadicInRange}
+use Rattle.records.proofs.TestLaws.{tests, All, cond-true, cond-false, false-true}
+use Rattle.account.specs.declared.Server.{Server}
+use Rattle.account.specs.declared.Pending.{Pending}
+use Rattle.account.specs.declared.Account.{Account}
+use Rattle.account.specs.declared.Place.{Place}
+use Rattle.account.specs.declared.Place.the-variants.{Low, Upper}
+use Rattle.account.specs.Account.{isUpper, freshAccount}
+use Rattle.account.specs.Rules.{blocking, waking}
+use Rattle.account.specs.Sound.{runsUpper}
+use Rattle.account.proofs.SoundLaws.{AccountSound, Sent, block-sound, wake-upper, wake-low, fresh-sound, upper-room}
+use Rattle.state.specs.declared.Thread.{Thread}
+use Rattle.state.specs.declared.State.{State}
+use Rattle.state.specs.State.{noServer, threadAt, pendingAt, accountAt, assigned, placeOf, place}
+use Rattle.state.proofs.SoundLaws.{noPending, ThreadSound, SoundFrom, Sound, RrTests, SporadicTests, range-out, fifo-out, rr-out, sporadic-out}
+use Rattle.state.proofs.SoundLaws.ThreadSound.{absent, fifo, rr, sporadic}
+use Rattle.moments.specs.Changes.{withServer, withLeft}
+use Rattle.moments.proofs.ChargeLaws.{by-zero, by-one, by-two}
+use Rattle.events.specs.Effects.{withBlocked, fullQuantum, ifSporadic, noAccount, renewed, newAccount}
+
+-- a thread and an account that fit a place of a sound state
+pub record Fits (start now : ℕ) (b : Bool) (t : Thread) (a : Account) : Type 0 where
+  pub dues : length (a .pending .dues) ≡ 8
+  pub amounts : length (a .pending .amounts) ≡ 8
+  pub sound : ThreadSound start now now b (withServer (a .server) t) (a .pending)
+
+module _ (start now : ℕ) (b : Bool) (t : Thread) (q : Pending) (d : length (q .dues) ≡ 8) (m : length (q .amounts) ≡ 8) where
+  -- a block of a thread that stands in list p
+  pub block-fits : ThreadSound start now now b t q → t .blocked ≡ false → (p : ℕ) → assigned t (q .count) ≡ p → 1 ≤ p
+      → Fits start now b (withBlocked true t) (ifSporadic t (blocking now false (t .parameters) (record { server = t .server; pending = q }) .account) (record { server = t .server; pending = q }))
+  block-fits (absent n e f) w p a l = absurd (omega (arith, ap (λ (x : Thread). assigned x (q .count)) e))
+  block-fits (fifo n z h l v f) w p a g =
+      subst⁻¹ (Fits start now b (withBlocked true t)) (by-zero (t .parameters .policy) _ _ _ z) (record { dues = d; amounts = m; sound = fifo n z h l v f })
+  block-fits (rr n z h l v f) w p a g =
+      subst⁻¹ (Fits start now b (withBlocked true t)) (by-one (t .parameters .policy) _ _ _ z) (record { dues = d; amounts = m; sound = rr n z h l v f })
+  block-fits (sporadic n z h l v) w p a g =
+      let k = block-sound start now (t .parameters) now (record { server = t .server; pending = q })
+      (runsUpper (t .blocked) (t .parameters) (record { server = t .server; pending = q })) v (omega arith) (omega (tests, h))
+      (λ u. upper-room (t .parameters) (record { server = t .server; pending = q }) (sym (cond-false (t .blocked) false _ w) ∙ u) .1) in
+      subst⁻¹ (Fits start now b (withBlocked true t)) (by-two (t .parameters .policy) _ _ _ z)
+      (record { dues = omega (tests, k .duePlaces .0); amounts = omega (tests, k .amountPlaces .0); sound = sporadic n z h l k })
+
+  -- a full quantum changes an RR thread alone
+  pub quantum-fits : ThreadSound start now now b t q → ThreadSound start now now b (fullQuantum t) q
+  quantum-fits (absent n e f) = subst⁻¹ (λ (x : Thread). ThreadSound start now now b (fullQuantum x) q) e (absent n refl f)
+  quantum-fits (fifo n z h l v f) = fifo n z h (by-zero (t .parameters .policy) _ _ _ z ∙ l) v f
+  quantum-fits (rr n z h l v f) =
+      rr n z h (subst⁻¹ (λ (y : ℕ). All (leb 1 y ∷ leb y (t .parameters .budget) ∷ [])) (by-one (t .parameters .policy) (t .left) (t .parameters .budget) (t .left) z) (omega (tests, h))) v f
+  quantum-fits (sporadic n z h l v) = sporadic n z h (by-two (t .parameters .policy) _ _ _ z ∙ l) v
+
+  -- a wake of a blocked thread
+  pub wake-fits : ThreadSound start now now b t q → t .blocked ≡ true → start ≤ now
+      → Fits start now b (withBlocked false (fullQuantum t)) (ifSporadic t (waking now true (t .parameters) (record { server = t .server; pending = q }) .account) (record { server = t .server; pending = q }))
+  wake-fits (absent n e f) w l = false-true (sym (ap (λ (x : Thread). x .blocked) e) ∙ w)
+  wake-fits (fifo n z h l v f) w g =
+      subst⁻¹ (Fits start now b (withBlocked false (fullQuantum t))) (by-zero (t .parameters .policy) _ _ _ z)
+      (record { dues = d; amounts = m; sound = fifo n z h (by-zero (t .parameters .policy) _ _ _ z ∙ l) v f })
+  wake-fits (rr n z h l v f) w g =
+      subst⁻¹ (Fits start now b (withBlocked false (fullQuantum t))) (by-one (t .parameters .policy) _ _ _ z)
+      (record {
+        dues = d;
+        amounts = m;
+        sound = rr n z h (subst⁻¹ (λ (y : ℕ). All (leb 1 y ∷ leb y (t .parameters .budget) ∷ [])) (by-one (t .parameters .policy) (t .left) (t .parameters .budget) (t .left) z) (omega (tests, h))) v f;
+      })
+  wake-fits (sporadic n z h l v) w g =
+      subst⁻¹ (Fits start now b (withBlocked false (fullQuantum t))) (by-two (t .parameters .policy) _ _ _ z) (by (isUpper (t .parameters) (record { server = t .server; pending = q })) refl)
+    where
+      slept : AccountSound start now now false (t .parameters) (record { server = t .server; pending = q })
+      slept = subst (λ (x : Bool). AccountSound start now now x (t .parameters) (record { server = t .server; pending = q })) (cond-true (t .blocked) false _ w) v
+
+      sent : (u : Bool) (x : Place) → Sent start now now u (t .parameters) x (waking now true (t .parameters) (record { server = t .server; pending = q }))
+          → Fits start now b (withBlocked false (fullQuantum t)) (waking now true (t .parameters) (record { server = t .server; pending = q }) .account)
+      sent u x k =
+          record {
+            dues = omega (tests, k .sound .duePlaces .0);
+            amounts = omega (tests, k .sound .amountPlaces .0);
+            sound = sporadic n z h (by-two (t .parameters .policy) _ _ _ z ∙ l)
+                (subst⁻¹ (λ (y : Bool). AccountSound start now now y (t .parameters) (waking now true (t .parameters) (record { server = t .server; pending = q }) .account)) (k .upper) (k .sound));
+          }
+
+      by : (u : Bool) → isUpper (t .parameters) (record { server = t .server; pending = q }) ≡ u
+          → Fits start now b (withBlocked false (fullQuantum t)) (waking now true (t .parameters) (record { server = t .server; pending = q }) .account)
+      by true e = sent true Upper (wake-upper start now (t .parameters) now (record { server = t .server; pending = q }) slept g e)
+      by false e = sent false Low (wake-low start now (t .parameters) now (record { server = t .server; pending = q }) slept e)
+
+-- the parameters of a set or an opening: in range, with no start flag
+pub set-fits : (start now : ℕ) (t : Thread) (p : Parameters) → start ≤ now → inRange 8 p ≡ true → p .flag ≡ 0
+    → Fits start now true (renewed p t) (newAccount now p) × (assigned (withServer (newAccount now p .server) (renewed p t)) (newAccount now p .pending .count) ≡ p .priority)
+    × (1 ≤ p .priority) × (p .priority ≤ 32)
+set-fits start now t p l r f = go (p .policy) refl (range-out p r)
+  where
+    prio : Account → ℕ
+    prio a = assigned (withServer (a .server) (renewed p t)) (a .pending .count)
+
+    go : (c : ℕ) → p .policy ≡ c → (1 ≤ p .priority) × (p .priority ≤ 32) × (p .policy ≤ 2) × (byPolicy (p .policy) (fifoInRange p) (rrInRange p) (sporadicInRange 8 p) ≡ true)
+        → Fits start now true (renewed p t) (newAccount now p) × (assigned (withServer (newAccount now p .server) (renewed p t)) (newAccount now p .pending .count) ≡ p .priority)
+        × (1 ≤ p .priority) × (p .priority ≤ 32)
+    go zero z g =
+        let h = fifo-out p (sym (by-zero (p .policy) (fifoInRange p) (rrInRange p) (sporadicInRange 8 p) z) ∙ g .3) in (
+          subst⁻¹ (Fits start now true (renewed p t)) (by-zero (p .policy) noAccount noAccount (freshAccount now p) z)
+              (record { dues = refl; amounts = refl; sound = fifo refl z (omega (tests, h, g .0, g .1, f)) (by-zero (p .policy) _ _ _ z) refl refl }),
+          by-zero (p .policy) _ _ _ z,
+          g .0,
+          g .1,
+        )
+    go (suc zero) z g =
+        let h = rr-out p (sym (by-one (p .policy) (fifoInRange p) (rrInRange p) (sporadicInRange 8 p) z) ∙ g .3) in (
+          subst⁻¹ (Fits start now true (renewed p t)) (by-one (p .policy) noAccount noAccount (freshAccount now p) z)
+              (record {
+                dues = refl;
+                amounts = refl;
+                sound = rr refl z (omega (tests, h, g .0, g .1, f))
+                    (subst⁻¹ (λ (y : ℕ). All (leb 1 y ∷ leb y (p .budget) ∷ [])) (by-one (p .policy) 0 (p .budget) 0 z) (omega (tests, h))) refl refl;
+              }),
+          by-one (p .policy) _ _ _ z,
+          g .0,
+          g .1,
+        )
+    go (suc (suc zero)) z g =
+        let h = sporadic-out p (sym (by-two (p .policy) (fifoInRange p) (rrInRange p) (sporadicInRange 8 p) z) ∙ g .3) in
+        let k = fresh-sound start now p (runsUpper (t .blocked) p (freshAccount now p)) l (omega (tests, h)) (omega (tests, h)) in
+        let e = by-two (p .policy) noAccount noAccount (freshAccount now p) z in (
+          subst⁻¹ (Fits start now true (renewed p t)) e
+              (record { dues = refl; amounts = refl; sound = sporadic refl z (omega (tests, h, g .0, g .1, f)) (by-two (p .policy) _ _ _ z) (k .0) }),
+          ap prio e ∙ by-two (p .policy) _ _ _ z ∙ cond-true _ (p .priority) (p .low) (k .1),
+          g .0,
+          g .1,
+        )
+    go (suc (suc (suc c))) z g = absurd (omega (arith, g .2))

@@ -1,0 +1,242 @@
+-- An accepted opening gives a sound state.
+use Prim.Native.Nat.{ℕ, zero, suc, _+_, _-_, _*_, _≤_, _<_}
+use mathlib.Core.Bool.{Bool, true, false, cond, not, _&&_}
+use mathlib.Core.Path.{_≡_, refl, sym, ap, _∙_, subst, subst⁻¹}
+use mathlib.Core.List.{List, [], _∷_}
+use lib.ListN.{length, getD, take, drop, replicate, getD-replicate}
+use lib.Dec.{ltb, leb, eqb}
+use native.Mathlib.Omega.{arith}
+use native.Mathlib.Decide.{ℕ-discrete}
+use borrow.Author.Tests.{eqb-true, eqb-false, eq-eqb, ne-eqb, lt-ltb, le-ltb, ltb-true, ltb-false, leb-true}
+use Rattle.records.specs.declared.Parameters.{Parameters}
+use Rattle.records.specs.declared.Header.{Header}
+use Rattle.records.specs.Tests.{below, zeros}
+use Rattle.records.specs.Ranges.{inRange, noParameters}
+use Rattle.records.proofs.TestLaws.{tests, All, below-at, zeros-eq, zeros-drop, zeros-replicate, cond-true, cond-false, false-true}
+use Rattle.account.specs.declared.Pending.{Pending}
+use Rattle.account.specs.declared.Account.{Account}
+use Rattle.ready.specs.Lists.{appended}
+use Rattle.ready.specs.Word.{occupancy}
+use Rattle.ready.proofs.Soundness.{ListsSound}
+use Rattle.ready.proofs.SoundLaws.{withPlace, sound-same, append-sound, empty-sound}
+use Rattle.passing.specs.Sequence.{Answer, firstOf, accepted}
+use Rattle.passing.proofs.SequenceLaws.{firstOf-zero}
+use Rattle.state.specs.declared.Thread.{Thread}
+use Rattle.state.specs.declared.State.{State}
+use Rattle.state.specs.State.{noThread, threadAt, rowAt, pendingAt, assigned, placeOf, place}
+use Rattle.state.specs.Sound.{totals, soundState}
+use Rattle.state.proofs.SoundLaws.{noPending, ThreadSound, SoundFrom, Sound, sizeTests, row-length, state-in}
+use Rattle.state.proofs.SoundLaws.ThreadSound.{absent, fifo, rr, sporadic}
+use Rattle.moments.specs.Changes.{withServer, withLists, withAccount}
+use Rattle.moments.proofs.ChangeLaws.{withBound, totals-set, changed-at}
+use Rattle.moments.proofs.FireLaws.{bounds-same}
+use Rattle.events.specs.Effects.{withBlocked, renewed, newAccount}
+use Rattle.events.specs.Answers.{executive}
+use Rattle.events.specs.Opening.{emptyState, withoutFlag, entered, enteredBelow, openStatus, opening}
+use Rattle.events.proofs.EffectLaws.{Fits, set-fits}
+use Rattle.events.proofs.EventLaws.{no-status, and-both}
+
+-- the same state with another number of threads
+abbrev withN : ℕ → State → State
+withN k s =
+    record {
+      header = record { n = k; start = s .header .start };
+      now = s .now;
+      idle = s .idle;
+      word = s .word;
+      threads = s .threads;
+      counts = s .counts;
+      dues = s .dues;
+      amounts = s .amounts;
+      lists = s .lists;
+    }
+
+-- what a state meets once k threads have entered
+pub record Entered (k : ℕ) (s : State) : Type 0 where
+  pub sizes : All (leb (s .header .start) (s .now) ∷ leb (s .now) 1000000000000000 ∷ eqb (length (s .threads)) 32 ∷ eqb (length (s .counts)) 32 ∷ eqb (length (s .dues)) 256 ∷ eqb (length (s .amounts)) 256 ∷ [])
+  pub each : (i : ℕ) → i < 32 → ThreadSound (s .header .start) (s .now) (s .now) (ltb i k) (threadAt s i) (pendingAt s i)
+  pub lists : ListsSound (place s) (s .word) (s .lists)
+  pub timed : s .header .start + totals (s .threads) + s .idle ≡ s .now
+
+-- and the other way round
+entered-of : (k : ℕ) (s : State) → Sound (withN k s) → Entered k s
+entered-of k s h = record { sizes = omega (tests, h .sizes); each = h .each; lists = h .lists; timed = h .timed }
+
+sound-of : (k : ℕ) (s : State) → 1 ≤ k → k ≤ 32 → Entered k s → Sound (withN k s)
+sound-of k s a b h = record { sizes = omega (tests, h .sizes); each = h .each; lists = h .lists; timed = h .timed }
+
+-- a place that is still empty
+empty-place : (start now lo k : ℕ) (t : Thread) (q : Pending) → ThreadSound start now lo (ltb k k) t q → t ≡ noThread
+empty-place start now lo k t q (absent n e f) = e
+empty-place start now lo k t q (fifo n z g l v f) = false-true (sym (le-ltb k k (omega arith)) ∙ n)
+empty-place start now lo k t q (rr n z g l v f) = false-true (sym (le-ltb k k (omega arith)) ∙ n)
+empty-place start now lo k t q (sporadic n z g l v) = false-true (sym (le-ltb k k (omega arith)) ∙ n)
+
+same-range : (p : Parameters) → inRange 8 (withoutFlag p) ≡ inRange 8 p
+unfolding inRange Rattle.records.specs.Ranges.fifoInRange Rattle.records.specs.Ranges.rrInRange Rattle.records.specs.Ranges.sporadicInRange
+same-range p = refl
+
+module _ (k : ℕ) (s : State) (h : Entered k s) (l : k < 32) (p : Parameters) (r : inRange 8 p ≡ true) where
+  t : Thread
+  t = withBlocked (eqb (p .flag) 0) (threadAt s k)
+
+  none : threadAt s k ≡ noThread
+  none = empty-place (s .header .start) (s .now) (s .now) k (threadAt s k) (pendingAt s k) (h .each k l)
+
+  pub unplaced : place s k ≡ 0
+  unplaced = ap (λ (x : Thread). placeOf x (getD (s .counts) k 0)) none
+
+  f : Fits (s .header .start) (s .now) true (renewed (withoutFlag p) t) (newAccount (s .now) (withoutFlag p))
+      × (assigned (withServer (newAccount (s .now) (withoutFlag p) .server) (renewed (withoutFlag p) t)) (newAccount (s .now) (withoutFlag p) .pending .count) ≡ p .priority)
+      × (1 ≤ p .priority) × (p .priority ≤ 32)
+  f = set-fits (s .header .start) (s .now) t (withoutFlag p) (omega (tests, h .sizes)) (same-range p ∙ r) refl
+
+  ok : Fits (s .header .start) (s .now) (ltb k (suc k)) (renewed (withoutFlag p) t) (newAccount (s .now) (withoutFlag p))
+  ok = subst⁻¹ (λ (b : Bool). Fits (s .header .start) (s .now) b (renewed (withoutFlag p) t) (newAccount (s .now) (withoutFlag p))) (lt-ltb k (suc k) (omega arith)) (f .0)
+
+  others : (j : ℕ) → j < 32 → (j ≡ k → ⊥) → ThreadSound (s .header .start) (s .now) (s .now) (ltb j (suc k)) (threadAt s j) (pendingAt s j)
+  others j m d = subst (λ (b : Bool). ThreadSound (s .header .start) (s .now) (s .now) b (threadAt s j) (pendingAt s j)) (go (ltb j k) refl) (h .each j m)
+    where
+      go : (b : Bool) → ltb j k ≡ b → ltb j k ≡ ltb j (suc k)
+      go true q = q ∙ sym (lt-ltb j (suc k) (omega (arith, ltb-true j k q)))
+      go false q = q ∙ sym (le-ltb j (suc k) (omega (arith, ltb-false j k q, d)))
+
+  -- with lists that are sound for its place
+  with-lists : (l′ : List ℕ) → ListsSound (withPlace (place s) k (cond (eqb (p .flag) 0) 0 (p .priority))) (occupancy l′) l′
+      → Sound (withN (suc k) (withLists l′ (withAccount k (renewed (withoutFlag p) t) (newAccount (s .now) (withoutFlag p)) s)))
+  unfolding t
+  with-lists l′ q =
+      bounds-same (withBound (λ j. s .now) k (s .now)) (λ j. s .now) _
+      (changed-at (λ j. s .now) (withN (suc k) s) (omega (tests, h .sizes)) k l (renewed (withoutFlag p) t) (newAccount (s .now) (withoutFlag p)) (s .now) (ok .dues) (ok .amounts) (ok .sound) others
+      (omega (arith, h .timed, totals-set (s .threads) k (withServer (newAccount (s .now) (withoutFlag p) .server) (renewed (withoutFlag p) t)) (omega (tests, h .sizes)))) l′
+      (subst⁻¹ (λ (y : ℕ). ListsSound (withPlace (place s) k (cond (eqb (p .flag) 0) 0 y)) (occupancy l′) l′) (f .1) q))
+      (λ j n. go (eqb j k))
+    where
+      go : (b : Bool) → s .now ≡ cond b (s .now) (s .now)
+      go true = refl
+      go false = refl
+
+  entered-sound : Sound (withN (suc k) (entered k p s))
+  unfolding t
+  entered-sound = by (eqb (p .flag) 0) refl
+    where
+      goal : List ℕ → Type 0
+      goal l′ = Sound (withN (suc k) (withLists l′ (withAccount k (renewed (withoutFlag p) t) (newAccount (s .now) (withoutFlag p)) s)))
+
+      same : (j : ℕ) → eqb (p .flag) 0 ≡ true → Dec (j ≡ k) → withPlace (place s) k (cond (eqb (p .flag) 0) 0 (p .priority)) j ≡ place s j
+      same j e (yes c) = cond-true (eqb j k) _ _ (eq-eqb j k c) ∙ cond-true (eqb (p .flag) 0) 0 (p .priority) e ∙ sym unplaced ∙ ap (place s) (sym c)
+      same j e (no c) = cond-false (eqb j k) _ _ (ne-eqb j k c)
+
+      by : (b : Bool) → eqb (p .flag) 0 ≡ b → goal (cond (eqb (p .flag) 0) (s .lists) (appended (p .priority) k (s .lists)))
+      by true e =
+          subst⁻¹ goal (cond-true (eqb (p .flag) 0) (s .lists) (appended (p .priority) k (s .lists)) e)
+          (with-lists (s .lists)
+          (subst (λ (w : ℕ). ListsSound (withPlace (place s) k (cond (eqb (p .flag) 0) 0 (p .priority))) w (s .lists)) (h .lists .agrees)
+          (sound-same (place s) (withPlace (place s) k (cond (eqb (p .flag) 0) 0 (p .priority))) (s .word) (s .lists) (λ j n. same j e (ℕ-discrete j k)) (h .lists))))
+      by false e =
+          subst⁻¹ goal (cond-false (eqb (p .flag) 0) (s .lists) (appended (p .priority) k (s .lists)) e)
+          (with-lists (appended (p .priority) k (s .lists))
+          (subst⁻¹ (λ (y : ℕ). ListsSound (withPlace (place s) k y) (occupancy (appended (p .priority) k (s .lists))) (appended (p .priority) k (s .lists))) (cond-false (eqb (p .flag) 0) 0 (p .priority) e)
+          (append-sound (place s) (s .word) (s .lists) (h .lists) k l (p .priority) (f .2) (f .3) unplaced)))
+
+-- ---- from the empty state on
+
+zeros-take : (n : ℕ) (xs : List ℕ) → All (zeros xs) → All (zeros (take n xs))
+zeros-take zero xs h = tt
+zeros-take (suc n) [] h = tt
+zeros-take (suc n) (x ∷ xs) h = (h .0, zeros-take n xs (h .1))
+
+empty-row : (i : ℕ) → i < 32 → rowAt i (replicate 256 0) ≡ replicate 8 0
+empty-row i l =
+    zeros-eq (rowAt i (replicate 256 0)) (zeros-take 8 (drop (i * 8) (replicate 256 0)) (zeros-drop (i * 8) (replicate 256 0) (zeros-replicate 256)))
+    ∙ ap (λ (n : ℕ). replicate n 0) (row-length i (replicate 256 0) l refl)
+
+module _ (n start : ℕ) (top : start ≤ 1000000000000000) where
+  no-thread : (i : ℕ) → i < 32 → threadAt (emptyState n start) i ≡ noThread
+  no-thread i l = getD-replicate 32 i noThread noThread l
+
+  no-pending : (i : ℕ) → i < 32 → pendingAt (emptyState n start) i ≡ noPending
+  no-pending i l =
+      λ x. record { count = getD-replicate 32 i 0 0 l x; dues = empty-row i l x; amounts = empty-row i l x }
+
+  empty-entered : Entered 0 (emptyState n start)
+  empty-entered =
+      record {
+        sizes = omega tests;
+        each = λ i l. absent (le-ltb i 0 (omega arith)) (no-thread i l) (no-pending i l);
+        lists = sound-same (λ i. 0) (place (emptyState n start)) 0 (replicate 1056 0) (λ i l. ap (λ (t : Thread). placeOf t (getD (replicate 32 0) i 0)) (no-thread i l)) empty-sound;
+        timed = omega arith;
+      }
+
+  pub below-entered : (table : List Parameters) (k : ℕ) → k ≤ 32 → ((i : ℕ) → i < k → inRange 8 (getD table i noParameters) ≡ true)
+      → Entered k (enteredBelow k table (emptyState n start))
+  unfolding enteredBelow
+  below-entered table zero l r = empty-entered
+  below-entered table (suc k) l r =
+      entered-of (suc k) (entered k (getD table k noParameters) (enteredBelow k table (emptyState n start)))
+      (entered-sound k (enteredBelow k table (emptyState n start)) (below-entered table k (omega arith) (λ i m. r i (omega arith))) (omega arith) (getD table k noParameters) (r k (omega arith)))
+
+-- N stays what the opening was given
+header-entered : (table : List Parameters) (k : ℕ) (s : State) → enteredBelow k table s .header ≡ s .header
+unfolding enteredBelow
+header-entered table zero s = refl
+header-entered table (suc k) s = header-entered table k s
+
+pub or-status : (b : Bool) (n : ℕ) → 0 < n → cond b 0 n ≡ 0 → b ≡ true
+or-status true n l e = refl
+or-status false n l e = absurd (omega arith)
+
+pub opened-sound : (start n : ℕ) (table : List Parameters) → openStatus start n table ≡ 0 → Sound (enteredBelow n table (emptyState n start))
+unfolding openStatus
+opened-sound start n table z =
+    let a = firstOf-zero _ _ z in
+    let b = firstOf-zero _ _ (a .1) in
+    let c = firstOf-zero _ _ (b .1) in
+    let r = and-both (leb 1 n) (leb n 32) (or-status _ 5 (omega arith) (a .0)) in
+    let t = ltb-false 1000000000000000 start (no-status _ 3 (omega arith) (b .0)) in
+    let v = or-status _ 6 (omega arith) (c .0) in
+    let s = enteredBelow n table (emptyState n start) in
+    let e = below-entered n start t table n (leb-true n 32 (r .1))
+    (λ i m. and-both (inRange 8 (getD table i noParameters)) (leb (getD table i noParameters .flag) 1)
+    (below-at n (λ i. inRange 8 (getD table i noParameters) && leb (getD table i noParameters .flag) 1) v i m) .0) in
+    of-header s (header-entered table n (emptyState n start)) (sound-of n s (leb-true 1 n (r .0)) (leb-true n 32 (r .1)) e)
+  where
+    made : ℕ → Header
+    made x = record { n = n; start = x }
+
+    of-header : (s : State) → s .header ≡ record { n = n; start = start } → Sound (withN n s) → Sound s
+    of-header s q h = subst Sound same h
+      where
+        head : made (s .header .start) ≡ s .header
+        head = ap (λ (x : Header). made (x .start)) q ∙ sym q
+
+        same : withN n s ≡ s
+        same =
+            λ x. record {
+              header = head x;
+              now = s .now;
+              idle = s .idle;
+              word = s .word;
+              threads = s .threads;
+              counts = s .counts;
+              dues = s .dues;
+              amounts = s .amounts;
+              lists = s .lists;
+            }
+
+-- an accepted opening is sound
+pub opening-sound : (start n : ℕ) (table : List Parameters) → opening start n table .status ≡ 0 → soundState (opening start n table .state) ≡ true
+unfolding opening
+opening-sound start n table z = go (ℕ-discrete (openStatus start n table) 0)
+  where
+    opened : Answer State
+    opened = accepted executive (enteredBelow n table (emptyState n start))
+
+    closed : Answer State
+    closed = record { status = openStatus start n table; running = 255; next = 0; state = emptyState 0 0 }
+
+    go : Dec (openStatus start n table ≡ 0) → soundState (cond (eqb (openStatus start n table) 0) opened closed .state) ≡ true
+    go (yes e) =
+        subst⁻¹ (λ (a : Answer State). soundState (a .state) ≡ true) (cond-true (eqb (openStatus start n table) 0) opened closed (eq-eqb (openStatus start n table) 0 e))
+        (state-in (enteredBelow n table (emptyState n start)) (opened-sound start n table e))
+    go (no e) = absurd (e (sym (ap (λ (a : Answer State). a .status) (cond-false (eqb (openStatus start n table) 0) opened closed (ne-eqb (openStatus start n table) 0 e))) ∙ z))

@@ -1,0 +1,50 @@
+-- Demand 3 at the executive, and what every accepted answer leaves.
+use Prim.Native.Nat.{ℕ, _+_, _≤_, _<_}
+use mathlib.Core.Bool.{true}
+use mathlib.Core.Path.{_≡_}
+use mathlib.Core.List.{List, []}
+use lib.ListN.{length}
+use Rattle.records.specs.declared.Parameters.{Parameters}
+use Rattle.records.specs.declared.Event.{Event}
+use Rattle.records.specs.Ranges.{lastTime}
+use Rattle.ready.specs.Lists.{threads, headOf}
+use Rattle.passing.specs.Sequence.{status, answer}
+use Rattle.passing.specs.Readings.{ExtraReadings}
+use Rattle.state.specs.declared.State.{State}
+use Rattle.state.specs.Sound.{totals, soundState}
+use Rattle.moments.specs.Running.{level, running, next}
+use Rattle.moments.specs.Moments.{passed}
+use Rattle.events.specs.Answers.{executive}
+use Rattle.events.specs.Opening.{opening}
+
+-- Readings 1 to 13: extra clock readings before accepted events change no answer and no field of the end state
+abbrev pub ReadingsChangeNothing : Type 0
+ReadingsChangeNothing = ExtraReadings executive
+
+-- an accepted event leaves a sound state
+abbrev pub AcceptedIsSound : Type 0
+AcceptedIsSound = (s : State) (e : Event) → status executive s e ≡ 0 → soundState (answer executive s e .state) ≡ true
+
+-- an accepted opening gives one
+abbrev pub OpeningIsSound : Type 0
+OpeningIsSound = (start n : ℕ) (table : List Parameters) → opening start n table .status ≡ 0 → soundState (opening start n table .state) ≡ true
+
+-- State 18: the running thread heads the highest list that has one, and nothing runs where no list has one
+pub record HeadOfHighest (s : State) : Type 0 where
+  pub idle : level s ≡ 0 → (running s ≡ 255) × ((p : ℕ) → 1 ≤ p → p ≤ 32 → threads p (s .lists) ≡ [])
+  pub busy : (level s ≡ 0 → ⊥) → (running s ≡ headOf (level s) (s .lists)) × (0 < length (threads (level s) (s .lists))) × ((p : ℕ) → level s < p → p ≤ 32 → threads p (s .lists) ≡ [])
+
+abbrev pub HeadRuns : Type 0
+HeadRuns = (s : State) → soundState s ≡ true → HeadOfHighest s
+
+-- State 16: run times and idle time make up the time since the start
+abbrev pub TimesAddUp : Type 0
+TimesAddUp = (s : State) → soundState s ≡ true → s .header .start + totals (s .threads) + s .idle ≡ s .now
+
+-- Passing 2: the next moment of a sound state is after now
+abbrev pub NextIsLater : Type 0
+NextIsLater = (s : State) → soundState s ≡ true → 0 < next s → s .now < next s
+
+-- Passing 1: to b and then to c is to c
+abbrev pub PassingComposes : Type 0
+PassingComposes = (s : State) (b c : ℕ) → soundState s ≡ true → s .now ≤ b → b ≤ c → c ≤ lastTime → passed (passed s b) c ≡ passed s c

@@ -1,0 +1,6 @@
+-- What a reader of `executive` must believe.
+pub mod Effects
+pub mod Answers
+pub mod Opening
+pub mod Demand
+pub mod Table

@@ -1,0 +1,62 @@
+-- Opening a state from a table of threads.
+use Prim.Native.Nat.{ℕ, zero, suc}
+use mathlib.Core.Bool.{Bool, cond, not, _&&_}
+use mathlib.Core.List.{List, [], _∷_}
+use lib.ListN.{getD, replicate}
+use lib.Dec.{ltb, leb, eqb}
+use Rattle.records.specs.declared.Parameters.{Parameters}
+use Rattle.records.specs.Tests.{below}
+use Rattle.records.specs.Ranges.{mostThreads, mostReplenishments, lastTime, inRange, noParameters}
+use Rattle.ready.specs.Lists.{appended}
+use Rattle.passing.specs.Sequence.{Answer, firstOf, accepted}
+use Rattle.state.specs.declared.State.{State}
+use Rattle.state.specs.State.{noThread, threadAt}
+use Rattle.moments.specs.Changes.{withLists, withAccount}
+use Rattle.events.specs.Effects.{withBlocked, renewed, newAccount}
+use Rattle.events.specs.Answers.{executive}
+
+-- Status 20: a state of so many threads, none of them there yet, at the start time
+abbrev pub emptyState : ℕ → ℕ → State
+emptyState n start =
+    record {
+      header = record { n = n; start = start };
+      now = start;
+      idle = 0;
+      word = 0;
+      threads = replicate 32 noThread;
+      counts = replicate 32 0;
+      dues = replicate 256 0;
+      amounts = replicate 256 0;
+      lists = replicate 1056 0;
+    }
+
+-- the parameters as a state keeps them: the start flag is spent
+abbrev pub withoutFlag : Parameters → Parameters
+withoutFlag p = record { policy = p .policy; priority = p .priority; low = p .low; «max_repl» = p .«max_repl»; flag = 0; budget = p .budget; period = p .period }
+
+-- Events 7: thread i is given its parameters as by a set; a runnable one (start flag 1) becomes the tail of its list
+abbrev pub entered : ℕ → Parameters → State → State
+entered i p s =
+    withLists (cond (eqb (p .flag) 0) (s .lists) (appended (p .priority) i (s .lists)))
+    (withAccount i (renewed (withoutFlag p) (withBlocked (eqb (p .flag) 0) (threadAt s i))) (newAccount (s .now) (withoutFlag p)) s)
+
+-- Events 7: the first n threads of the table, in number order
+unfoldable pub enteredBelow : ℕ → List Parameters → State → State
+enteredBelow zero table s = s
+enteredBelow (suc n) table s = entered n (getD table n noParameters) (enteredBelow n table s)
+
+-- Status 6, 4 and 7 at opening, in the order of Status 16: 5, 3, 6
+unfoldable pub openStatus : ℕ → ℕ → List Parameters → ℕ
+openStatus start n table =
+    firstOf
+    (cond (leb 1 n && leb n mostThreads) 0 5
+    ∷ cond (ltb lastTime start) 3 0
+    ∷ cond (below n (λ i. inRange mostReplenishments (getD table i noParameters) && leb (getD table i noParameters .flag) 1)) 0 6
+    ∷ [])
+
+-- Events 7, Status 20: the answer to an opening
+unfoldable pub opening : ℕ → ℕ → List Parameters → Answer State
+opening start n table =
+    let opened = accepted executive (enteredBelow n table (emptyState n start)) in
+    cond (eqb (openStatus start n table) 0) opened
+    (record { status = openStatus start n table; running = 255; next = 0; state = emptyState 0 0 })

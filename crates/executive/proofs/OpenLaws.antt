@@ -1,0 +1,209 @@
+-- What the functions of the opening compute is what the definitions say, and each thread of an accepted table can enter.
+use Prim.Native.Nat.{ℕ, suc, _+_, _≤_, _<_}
+use mathlib.Core.Bool.{Bool, true, false, cond, _&&_}
+use mathlib.Core.Path.{_≡_, refl, sym, ap, _∙_, subst⁻¹, ap₂}
+use mathlib.Core.List.{List}
+use lib.ListN.{length, getD, replicate}
+use lib.Dec.{leb, eqb}
+use native.Mathlib.Omega.{arith}
+use native.Mathlib.Numerals.{add-one}
+use borrow.Author.Tests.{eq-eqb, ne-eqb, lt-ltb, le-ltb, le-leb, lt-leb, leb-true, ltb-false}
+use Rattle.records.specs.declared.Parameters.{Parameters}
+use Rattle.records.specs.Tests.{below}
+use Rattle.records.specs.Ranges.{inRange, noParameters}
+use Rattle.records.proofs.TestLaws.{tests, all-true, all-one, below-at, cond-true, cond-false}
+use Rattle.account.specs.declared.Account.{Account}
+use Rattle.ready.specs.Lists.{appended}
+use Rattle.ready.specs.Word.{occupancy}
+use Rattle.ready.specs.Rules.{Joinable}
+use Rattle.ready.proofs.SoundLaws.{joinable}
+use Rattle.passing.specs.Sequence.{firstOf}
+use Rattle.passing.proofs.SequenceLaws.{firstOf-zero}
+use Rattle.state.specs.declared.Thread.{Thread}
+use Rattle.state.specs.declared.State.{State}
+use Rattle.state.specs.State.{noThread, threadAt, place}
+use Rattle.moments.specs.Changes.{withLists, withAccount}
+use Rattle.events.specs.Effects.{withBlocked, renewed, newAccount}
+use Rattle.events.specs.Opening.{emptyState, withoutFlag, entered, enteredBelow, openStatus, opening}
+use Rattle.events.proofs.EventLaws.{no-status, and-both}
+use Rattle.events.proofs.OpeningLaws.{Entered, unplaced, below-entered, or-status, opened-sound}
+use Rattle.executive.proofs.StateLaws.{lists-are}
+use Rattle.passing.specs.Sequence as sequence
+use Rattle.state.specs.Sound.{soundState}
+use Rattle.state.proofs.SoundLaws.{state-in}
+use Rattle.events.specs.Answers.{executive}
+use Rattle.executive.specs.declared.Answer.{Answer}
+use Rattle.executive.specs.Answer.{returned, openAnswer, answered, unread}
+
+pub empty-is : (n start : ℕ) (l : List ℕ) → l ≡ replicate 1056 0
+    → record {
+      header = record { n = n; start = start };
+      now = start;
+      idle = 0;
+      word = 0;
+      threads = replicate 32 noThread;
+      counts = replicate 32 0;
+      dues = replicate 256 0;
+      amounts = replicate 256 0;
+      lists = l;
+    }
+    ≡ emptyState n start
+empty-is n start l e =
+    λ x. record {
+      header = record { n = n; start = start };
+      now = start;
+      idle = 0;
+      word = 0;
+      threads = replicate 32 noThread;
+      counts = replicate 32 0;
+      dues = replicate 256 0;
+      amounts = replicate 256 0;
+      lists = e x;
+    }
+
+-- ---- the tests
+
+-- a test of every number below i, from the test of the last of them
+module _ (f : ℕ → Bool) (i j : ℕ) (e : i ≡ suc j) where
+  pub below-less : f j ≡ true → below i f ≡ below j f
+  unfolding below
+  below-less t = ap (λ (x : ℕ). below x f) e ∙ ap (λ (b : Bool). cond (below j f) b false) t ∙ all-one (below j f)
+
+  pub below-stops : f j ≡ false → below i f ≡ false
+  unfolding below
+  below-stops t = ap (λ (x : ℕ). below x f) e ∙ ap (λ (b : Bool). cond (below j f) b false) t ∙ never (below j f)
+    where
+      never : (b : Bool) → cond b false false ≡ false
+      never true = refl
+      never false = refl
+
+-- thread i of the table may be opened
+abbrev pub opens : List Parameters → ℕ → Bool
+opens table i = inRange 8 (getD table i noParameters) && leb (getD table i noParameters .flag) 1
+
+module _ (start n : ℕ) (table : List Parameters) where
+  pub status-none : n < 1 → openStatus start n table ≡ 5
+  unfolding openStatus firstOf
+  status-none a = simp (lt-leb 1 n a)
+
+  pub status-many : 32 < n → openStatus start n table ≡ 5
+  unfolding openStatus firstOf
+  status-many a = simp (le-leb 1 n (omega arith), lt-leb n 32 a)
+
+  module _ (a : 1 ≤ n) (b : n ≤ 32) where
+    pub status-late : 1000000000000000 < start → openStatus start n table ≡ 3
+    unfolding openStatus firstOf
+    status-late c = simp (le-leb 1 n a, le-leb n 32 b, lt-ltb 1000000000000000 start c)
+
+    pub status-table : start ≤ 1000000000000000 → (t : Bool) → below n (opens table) ≡ t → openStatus start n table ≡ cond t 0 6
+    unfolding openStatus firstOf
+    status-table c true d = simp (le-leb 1 n a, le-leb n 32 b, le-ltb 1000000000000000 start c, d)
+    status-table c false d = simp (le-leb 1 n a, le-leb n 32 b, le-ltb 1000000000000000 start c, d)
+
+-- ---- a thread enters
+
+module _ (s : State) (k i : ℕ) (ei : i ≡ k) (p q : Parameters) (eq : q ≡ withoutFlag p) (t : Thread) (et : t ≡ withBlocked (eqb (p .flag) 0) (threadAt s i))
+    (u : Thread) (eu : u ≡ renewed q t) (b : Account) (eb : b ≡ newAccount (s .now) q) (r : State) (er : r ≡ withAccount i u b s) where
+  new : ℕ → State
+  new j = withAccount j (renewed (withoutFlag p) (withBlocked (eqb (p .flag) 0) (threadAt s j))) (newAccount (s .now) (withoutFlag p)) s
+
+  put : r ≡ new k
+  unfolding new
+  put =
+      er
+      ∙ ap (λ (x : Thread). withAccount i x b s) (eu ∙ ap (renewed q) et)
+      ∙ ap (λ (x : Account). withAccount i (renewed q (withBlocked (eqb (p .flag) 0) (threadAt s i))) x s) eb
+      ∙ ap (λ (x : Parameters). withAccount i (renewed x (withBlocked (eqb (p .flag) 0) (threadAt s i))) (newAccount (s .now) x) s) eq
+      ∙ ap new ei
+
+  abbrev after : Bool → List ℕ
+  after x = cond x (s .lists) (appended (p .priority) k (s .lists))
+
+  -- blocked: the lists, and so their word, stay
+  pub enters-blocked : p .flag ≡ 0 → s .word ≡ occupancy (s .lists) → r ≡ entered k p s
+  unfolding new
+  enters-blocked z w = put ∙ lists-are (new k) (s .lists) (s .lists) (s .word) refl w ∙ ap (λ (x : Bool). withLists (after x) (new k)) (sym (eq-eqb (p .flag) 0 z))
+
+  pub enters-list : (p .flag ≡ 0 → ⊥) → withLists (appended (p .priority) k (r .lists)) r ≡ entered k p s
+  unfolding new
+  enters-list z =
+      ap (λ (x : State). withLists (appended (p .priority) k (x .lists)) x) put
+      ∙ ap (λ (x : Bool). withLists (after x) (new k)) (sym (ne-eqb (p .flag) 0 z))
+
+-- ---- a table that is accepted
+
+pub below-next : (table : List Parameters) (k : ℕ) (s : State) → entered k (getD table k noParameters) (enteredBelow k table s) ≡ enteredBelow (k + 1) table s
+unfolding enteredBelow
+below-next table k s = ap (λ (x : ℕ). enteredBelow x table s) (sym (add-one k))
+
+priority-range : (p : Parameters) → inRange 8 p ≡ true → (1 ≤ p .priority) × (p .priority ≤ 32)
+unfolding inRange
+priority-range p e = let a = all-true _ e in (leb-true 1 (p .priority) (a .0), leb-true (p .priority) 32 (a .1 .0))
+
+module _ (start n : ℕ) (table : List Parameters) (z : openStatus start n table ≡ 0) where
+  accepted : (n ≤ 32) × (start ≤ 1000000000000000) × (below n (opens table) ≡ true)
+  unfolding openStatus
+  accepted =
+      let a = firstOf-zero _ _ z in
+      let b = firstOf-zero _ _ (a .1) in
+      let c = firstOf-zero _ _ (b .1) in (
+        leb-true n 32 (and-both (leb 1 n) (leb n 32) (or-status _ 5 (omega arith) (a .0)) .1),
+        ltb-false 1000000000000000 start (no-status _ 3 (omega arith) (b .0)),
+        or-status _ 6 (omega arith) (c .0),
+      )
+
+  pub few : n ≤ 32
+  few = accepted .0
+
+  in-range : (i : ℕ) → i < n → inRange 8 (getD table i noParameters) ≡ true
+  in-range i l = and-both (inRange 8 (getD table i noParameters)) (leb (getD table i noParameters .flag) 1) (below-at n (opens table) (accepted .2) i l) .0
+
+  -- once k threads have entered, the next one can
+  pub next-enters : (k : ℕ) → k < n → (s : State) → s ≡ enteredBelow k table (emptyState n start)
+      → (k < 32) × (length (s .dues) ≡ 256) × (length (s .amounts) ≡ 256) × (s .word ≡ occupancy (s .lists))
+      × (eqb (getD table k noParameters .flag) 0 ≡ false → Joinable (s .word) (getD table k noParameters .priority) (s .lists))
+  next-enters k l s e = go (subst⁻¹ (Entered k) e (below-entered n start (accepted .1) table k (omega (arith, few)) (λ i m. in-range i (omega arith))))
+    where
+      p : Parameters
+      p = getD table k noParameters
+
+      range : (1 ≤ p .priority) × (p .priority ≤ 32)
+      range = priority-range p (in-range k l)
+
+      go : Entered k s
+          → (k < 32) × (length (s .dues) ≡ 256) × (length (s .amounts) ≡ 256) × (s .word ≡ occupancy (s .lists))
+          × (eqb (p .flag) 0 ≡ false → Joinable (s .word) (p .priority) (s .lists))
+      go h =
+          let m : k < 32 = omega (arith, few) in (
+            m,
+            omega (tests, h .sizes),
+            omega (tests, h .sizes),
+            h .lists .agrees,
+            λ f. joinable (place s) (s .word) (s .lists) (h .lists) (p .priority) (range .0) (range .1) k m
+                (λ y. omega (arith, unplaced k s h m p (in-range k l), range .0)),
+          )
+
+-- ---- the answer of an opening
+
+module _ (start n : ℕ) (table : List Parameters) (k : ℕ) (z : k ≡ openStatus start n table) where
+  opened : sequence.Answer State
+  opened = sequence.accepted executive (enteredBelow n table (emptyState n start))
+
+  closed : sequence.Answer State
+  closed = record { status = openStatus start n table; running = 255; next = 0; state = emptyState 0 0 }
+
+  pub closed-is : (k ≡ 0 → ⊥) → (s : State) → s ≡ emptyState 0 0 → unread k s ≡ openAnswer start n table
+  unfolding opening opened closed
+  closed-is d s e =
+      ap₂ unread z e
+      ∙ ap returned (sym (cond-false (eqb (openStatus start n table) 0) opened closed (ne-eqb (openStatus start n table) 0 (λ q. d (z ∙ q)))))
+
+  module _ (y : k ≡ 0) (s : State) (e : s ≡ enteredBelow n table (emptyState n start)) where
+    pub opened-state : soundState s ≡ true
+    opened-state = subst⁻¹ (λ (x : State). soundState x ≡ true) e (state-in (enteredBelow n table (emptyState n start)) (opened-sound start n table (sym z ∙ y)))
+
+    pub opened-is : answered 0 s ≡ openAnswer start n table
+    unfolding opening opened closed
+    opened-is =
+        ap (answered 0) e
+        ∙ ap returned (sym (cond-true (eqb (openStatus start n table) 0) opened closed (eq-eqb (openStatus start n table) 0 (sym z ∙ y))))

@@ -1,0 +1,84 @@
+-- `executive::opening::opened` meets its contract. The invariant: the first k threads have entered.
+use Rattle.records.specs.Ranges.{noParameters}
+use Prim.Native.Nat.{ℕ, _-_, _≤_}
+use mathlib.Core.Path.{_≡_, ap, _∙_}
+use lib.ListN.{getD}
+use native.Mathlib.Omega.{arith}
+use borrow.Author.Needs.{needs}
+use Rattle.events.specs.Opening.{emptyState, entered, enteredBelow}
+use Rattle.executive.proofs.OpenLaws.{few, next-enters, below-next}
+use Rattle.executive.proofs.opening.opened.Statement.{statement}
+use Rattle.executive.proofs.opening.opened.Tie as tie
+
+abbrev Inv-loop : tie.InvT-loop
+Inv-loop start n table s₀ k₀ s k = (k ≤ n) × (n ≤ 32) × (s ≡ enteredBelow k table (emptyState n start))
+
+abbrev μ-loop : tie.MeasureT-loop
+μ-loop start n table s₀ k₀ s k = n - k
+
+empty-state-requires : tie.Need-empty-state-requires Inv-loop μ-loop
+empty-state-requires c κs = search needs
+
+loop-holds : tie.Need-loop-holds Inv-loop μ-loop
+unfolding enteredBelow
+loop-holds c = let a = c .before in (omega arith, few (a .args .start) (a .args .n) (a .args .t3) (a .pre), c .empty-state .ensures)
+
+cast-p : tie.Need-cast-p Inv-loop μ-loop
+cast-p c = omega arith
+
+mul-p : tie.Need-mul-p Inv-loop μ-loop
+mul-p c = omega arith
+
+array-copy-out-p : tie.Need-array-copy-out-p Inv-loop μ-loop
+array-copy-out-p c = omega arith
+
+cast-enter : tie.Need-cast-enter Inv-loop μ-loop
+cast-enter c = omega arith
+
+enter-requires : tie.Need-enter-requires Inv-loop μ-loop
+enter-requires c κs =
+    let b = c .before .before in
+    let a = b .before .before in
+    next-enters (a .args .start) (a .args .n) (a .args .t3) (a .pre) (b .loop .k) (c .before .loop-test .taken) (b .loop .s) (b .loop .inv .2)
+
+add-k : tie.Need-add-k Inv-loop μ-loop
+add-k c = omega arith
+
+loop-less : tie.Need-loop-less Inv-loop μ-loop
+loop-less c = omega arith
+
+loop-again : tie.Need-loop-again Inv-loop μ-loop
+loop-again c =
+    let b = c .before .before .before in
+    let a = b .before .before .args in (
+      omega arith,
+      omega arith,
+      c .enter .ensures
+          ∙ ap (entered (b .loop .k) (getD (a .t3) (b .loop .k) noParameters)) (b .loop .inv .2)
+          ∙ below-next (a .t3) (b .loop .k) (emptyState (a .n) (a .start)),
+    )
+
+returns : tie.Need-returns Inv-loop μ-loop
+returns c =
+    let b = c .before in
+    let a = b .before .before .args in
+    let e : b .loop .k ≡ a .n = omega arith in
+    b .loop .inv .2 ∙ ap (λ (x : ℕ). enteredBelow x (a .t3) (emptyState (a .n) (a .start))) e
+
+pub opened-spec : {M : Type 1} → statement M
+opened-spec =
+    tie.close
+    (tie.spec
+    Inv-loop
+    μ-loop
+    empty-state-requires
+    loop-holds
+    cast-p
+    mul-p
+    array-copy-out-p
+    cast-enter
+    enter-requires
+    add-k
+    loop-less
+    loop-again
+    returns)

@@ -1,0 +1,18 @@
+-- `executive::parts::new_account` meets its contract.
+use borrow.Author.Needs.{needs}
+use mathlib.Core.Path.{sym, _∙_}
+use Rattle.state.proofs.TestLaws.{policy-low, policy-sporadic}
+use Rattle.executive.proofs.parts.new_account.Statement.{statement}
+use Rattle.executive.proofs.parts.new_account.Tie as tie
+
+returns : tie.Need-returns
+returns c = sym (policy-low (c .before .before .args .p .policy) _ _ (c .if1 .taken))
+
+fresh-requires : tie.Need-fresh-requires
+fresh-requires c κs = search needs
+
+returns-2 : tie.Need-returns-2
+returns-2 c = c .fresh .ensures ∙ sym (policy-sporadic (c .before .before .before .args .p .policy) _ _ _ (c .before .if1 .left))
+
+pub new-account-spec : {M : Type 1} → statement M
+new-account-spec = tie.close (tie.spec returns fresh-requires returns-2)

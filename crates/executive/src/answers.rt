@@ -1,0 +1,68 @@
+// The status of an event, and the answer that leaves a state: who runs and when to ask again.
+ghost use mathlib.Core.Path.{_≡_};
+ghost use mathlib.Core.Bool.{true};
+ghost use Rattle.state.specs.Sound.{soundState};
+ghost use Rattle.executive.specs.Answer.{answered, unread, timeStatus, earlyStatus};
+use super::Answer;
+use super::parts;
+use records::Event;
+use state::State;
+
+// The answer that leaves a sound state.
+pub(super) fn answer_of(status: u8, s: State) -> Answer
+    requires { ⌜ soundState s ≡ true ⌝ }
+    ensures { λ r. ⌜ r ≡ answered status s ⌝ }
+{
+    let p = ready::highest(s.word);
+    let h = moments::head_at(&s.lists, p);
+    let i = parts::wide(h);
+    let t = s.threads[i];
+    let n = s.header.n as usize;
+    let runs = moments::running(s.word, &s.lists);
+    let next = moments::next_moment(s.now, p, t, &s.counts, &s.dues, n);
+    Answer {
+        status: status,
+        running: runs,
+        next: next,
+        state: s,
+    }
+}
+
+// The answer that leaves a state of which nothing is read: no thread runs, and there is no next moment.
+pub(super) fn nothing_runs(status: u8, s: State) -> Answer
+    ensures { λ r. ⌜ r ≡ unread status s ⌝ }
+{
+    Answer {
+        status: status,
+        running: 255,
+        next: 0,
+        state: s,
+    }
+}
+
+// 3, 1 or 2 by the time of the event, else 0.
+fn time_status(now: u64, time: u64) -> u8
+    ensures { λ r. ⌜ r ≡ timeStatus now time ⌝ }
+{
+    if 1000000000000000 < time {
+        return 3;
+    }
+    if time < now {
+        return 1;
+    }
+    if 1000000 < time - now {
+        return 2;
+    }
+    0
+}
+
+// 4, 5, 6, 3, 1 or 2: what is judged before time passes, else 0.
+pub(super) fn early_status(n: u32, now: u64, e: Event) -> u8
+    ensures { λ r. ⌜ r ≡ earlyStatus n now e ⌝ }
+{
+    let fields = parts::field_status(n, e);
+    if fields != 0 {
+        return fields;
+    }
+    time_status(now, e.time)
+}

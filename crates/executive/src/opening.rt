@@ -1,0 +1,150 @@
+// Opening: whether a table may be opened, and the state that its threads give.
+ghost use mathlib.Core.Path.{_≡_};
+ghost use mathlib.Core.Bool.{false, _&&_};
+ghost use Prim.Native.Nat.{_<_, _≤_};
+ghost use lib.Dec.{leb, eqb};
+ghost use lib.ListN.{length, getD};
+ghost use Rattle.records.specs.Tests.{below};
+ghost use Rattle.records.specs.Ranges.{inRange, noParameters};
+ghost use Rattle.ready.specs.Word.{occupancy};
+ghost use Rattle.ready.specs.Rules.{Joinable};
+ghost use Rattle.events.specs.Opening.{emptyState, withoutFlag, entered, enteredBelow, openStatus};
+use super::effects;
+use super::parts;
+use account::Server;
+use records::Header;
+use records::Parameters;
+use state::State;
+use state::Thread;
+
+// A state of n threads in which none of them is there yet.
+pub(super) fn empty_state(n: u32, start: u64) -> State
+    ensures { λ r. ⌜ r ≡ emptyState n start ⌝ }
+{
+    let none = Thread {
+        parameters: Parameters {
+            policy: 0,
+            priority: 0,
+            low: 0,
+            max_repl: 0,
+            flag: 0,
+            budget: 0,
+            period: 0,
+        },
+        blocked: false,
+        total: 0,
+        left: 0,
+        server: Server {
+            capacity: 0,
+            used: 0,
+            activation: 0,
+        },
+    };
+    State {
+        header: Header { n: n, start: start },
+        now: start,
+        idle: 0,
+        word: 0,
+        threads: [none; 32],
+        counts: [0u8; 32],
+        dues: [0u64; 256],
+        amounts: [0u64; 256],
+        lists: ready::empty(),
+    }
+}
+
+// The parameters as a state keeps them: the start flag is spent.
+fn without_flag(p: Parameters) -> Parameters
+    ensures { λ r. ⌜ r ≡ withoutFlag p ⌝ }
+{
+    Parameters {
+        policy: p.policy,
+        priority: p.priority,
+        low: p.low,
+        max_repl: p.max_repl,
+        flag: 0,
+        budget: p.budget,
+        period: p.period,
+    }
+}
+
+// Whether a thread may be opened with these parameters.
+fn may_open(p: Parameters) -> bool
+    ensures { λ r. ⌜ r ≡ (inRange 8 p && leb (p .flag) 1) ⌝ }
+{
+    if records::in_range(p, 8) {
+        return p.flag <= 1;
+    }
+    false
+}
+
+// Whether the first n threads of the table may be opened.
+fn table_holds(n: usize, table: [Parameters; 32]) -> bool
+    requires { ⌜ n ≤ 32 ⌝ }
+    ensures { λ r. ⌜ r ≡ below n (λ i. inRange 8 (getD table i noParameters) && leb (getD table i noParameters .flag) 1) ⌝ }
+{
+    let mut i = n;
+    while 0 < i {
+        i = i - 1;
+        let p = table[i];
+        if !may_open(p) {
+            return false;
+        }
+    }
+    true
+}
+
+// 5, 3 or 6 where the opening is refused, else 0.
+pub(super) fn open_status(start: u64, n: u32, table: [Parameters; 32]) -> u8
+    ensures { λ r. ⌜ r ≡ openStatus start n table ⌝ }
+{
+    if n < 1 {
+        return 5;
+    }
+    if 32 < n {
+        return 5;
+    }
+    if 1000000000000000 < start {
+        return 3;
+    }
+    if table_holds(n as usize, table) {
+        return 0;
+    }
+    6
+}
+
+// Thread k enters with its parameters; with the start flag it becomes the tail of its list.
+fn enter(s: State, k: u8, p: Parameters) -> State
+    requires { ⌜ (k < 32) × (length (s .dues) ≡ 256) × (length (s .amounts) ≡ 256) × (s .word ≡ occupancy (s .lists))
+        × (eqb (p .flag) 0 ≡ false → Joinable (s .word) (p .priority) (s .lists)) ⌝ }
+    ensures { λ r. ⌜ r ≡ entered k p s ⌝ }
+{
+    let i = parts::wide(k);
+    let q = without_flag(p);
+    let none = s.threads[i];
+    let t = parts::with_blocked(p.flag == 0, none);
+    let u = parts::renew(q, t);
+    let b = parts::new_account(s.now, q);
+    let mut r = effects::put(s, i, u, b);
+    if p.flag == 0 {
+        return r;
+    }
+    let word = r.word;
+    r.word = ready::append(&mut r.lists, word, p.priority, k);
+    r
+}
+
+// The first n threads of the table enter, in number order.
+pub(super) fn opened(start: u64, n: u32, table: [Parameters; 32]) -> State
+    requires { ⌜ openStatus start n table ≡ 0 ⌝ }
+    ensures { λ r. ⌜ r ≡ enteredBelow n table (emptyState n start) ⌝ }
+{
+    let mut s = empty_state(n, start);
+    let mut k: u32 = 0;
+    while k < n {
+        let p = table[k as usize];
+        s = enter(s, k as u8, p);
+        k = k + 1;
+    }
+    s
+}

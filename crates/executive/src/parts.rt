@@ -1,0 +1,217 @@
+// What an event does to one thread and its account, and what of an event is judged before the state is.
+ghost use mathlib.Core.Path.{_≡_};
+ghost use mathlib.Core.Bool.{true, false, cond, not, _&&_};
+ghost use lib.Dec.{leb, eqb};
+ghost use Prim.Native.Nat.{_+_, _<_, _^_};
+ghost use Rattle.records.specs.Tests.{byPolicy};
+ghost use Rattle.records.specs.Ranges.{inRange, allZero};
+ghost use Rattle.account.specs.Rules.{blocking, waking};
+ghost use Rattle.moments.specs.Changes.{withServer};
+ghost use Rattle.events.specs.Effects.{withBlocked, fullQuantum, ifSporadic, renewed, newAccount};
+ghost use Rattle.events.specs.Answers.{fieldStatusOf, stateStatusOf};
+use account::Account;
+use account::Pending;
+use account::Server;
+use records::Event;
+use records::Parameters;
+use state::Thread;
+
+// A thread's number as an index.
+pub(super) fn wide(x: u8) -> usize
+    ensures { λ r. ⌜ r ≡ x ⌝ }
+{
+    x as usize
+}
+
+// A thread that is blocked, or not.
+pub(super) fn with_blocked(b: bool, t: Thread) -> Thread
+    ensures { λ r. ⌜ r ≡ withBlocked b t ⌝ }
+{
+    let p = t.parameters;
+    let v = t.server;
+    Thread {
+        parameters: p,
+        blocked: b,
+        total: t.total,
+        left: t.left,
+        server: v,
+    }
+}
+
+// What is left of a thread's quantum once it is full again; only RR has one.
+fn refilled(p: Parameters, left: u64) -> u64
+    ensures { λ r. ⌜ r ≡ byPolicy (p .policy) left (p .budget) left ⌝ }
+{
+    if p.policy == 1 {
+        return p.budget;
+    }
+    left
+}
+
+// A thread with a full quantum; nothing else changes, the activation time included.
+pub(super) fn full_quantum(t: Thread) -> Thread
+    ensures { λ r. ⌜ r ≡ fullQuantum t ⌝ }
+{
+    let p = t.parameters;
+    Thread {
+        parameters: p,
+        blocked: t.blocked,
+        total: t.total,
+        left: refilled(p, t.left),
+        server: Server {
+            capacity: t.server.capacity,
+            used: t.server.used,
+            activation: t.server.activation,
+        },
+    }
+}
+
+// The quantum that a thread starts with.
+fn quantum_of(p: Parameters) -> u64
+    ensures { λ r. ⌜ r ≡ byPolicy (p .policy) 0 (p .budget) 0 ⌝ }
+{
+    if p.policy == 1 {
+        return p.budget;
+    }
+    0
+}
+
+// A thread with new parameters.
+pub(super) fn renew(p: Parameters, t: Thread) -> Thread
+    ensures { λ r. ⌜ r ≡ renewed p t ⌝ }
+{
+    let v = t.server;
+    Thread {
+        parameters: p,
+        blocked: t.blocked,
+        total: t.total,
+        left: quantum_of(p),
+        server: v,
+    }
+}
+
+// The account that goes with new parameters.
+pub(super) fn new_account(time: u64, p: Parameters) -> Account
+    ensures { λ r. ⌜ r ≡ newAccount time p ⌝ }
+{
+    if p.policy < 2 {
+        return Account {
+            server: Server {
+                capacity: 0,
+                used: 0,
+                activation: 0,
+            },
+            pending: Pending {
+                count: 0,
+                dues: [0u64; 8],
+                amounts: [0u64; 8],
+            },
+        };
+    }
+    account::fresh(p, time)
+}
+
+// The account of a thread that blocks.
+pub(super) fn after_block(time: u64, t: Thread, a: Account) -> Account
+    requires { ⌜ (1 < t .parameters .policy → (a .server .activation + t .parameters .period < 2 ^ 64) × (0 < a .server .used → a .pending .count < 8)) ⌝ }
+    ensures { λ r. ⌜ r ≡ ifSporadic t (blocking time false (t .parameters) a .account) a ⌝ }
+{
+    if t.parameters.policy < 2 {
+        return a;
+    }
+    let p = t.parameters;
+    let o = account::block(p, a, false, time);
+    o.account
+}
+
+// The account of a thread that wakes.
+pub(super) fn after_wake(time: u64, t: Thread, a: Account) -> Account
+    ensures { λ r. ⌜ r ≡ ifSporadic t (waking time true (t .parameters) a .account) a ⌝ }
+{
+    if t.parameters.policy < 2 {
+        return a;
+    }
+    let p = t.parameters;
+    let o = account::wake(p, a, true, time);
+    o.account
+}
+
+// Whether an event of this kind must not name the thread.
+fn bad_thread(n: u32, kind: u8, thread: u8) -> bool
+    ensures { λ r. ⌜ r ≡ cond (leb kind 2) (not (eqb thread 0)) (leb n thread) ⌝ }
+{
+    if kind <= 2 {
+        return thread != 0;
+    }
+    n <= (thread as u32)
+}
+
+// Whether an event of this kind must not have these parameters.
+fn bad_parameters(kind: u8, p: Parameters) -> bool
+    ensures { λ r. ⌜ r ≡ cond (eqb kind 4) (not (inRange 8 p && eqb (p .flag) 0)) (not (allZero p)) ⌝ }
+{
+    if kind == 4 {
+        if records::in_range(p, 8) {
+            return p.flag != 0;
+        }
+        return true;
+    }
+    !records::all_zero(p)
+}
+
+// 4, 5 or 6 where the event's fields are wrong, else 0.
+pub(super) fn field_status(n: u32, e: Event) -> u8
+    ensures { λ r. ⌜ r ≡ fieldStatusOf n e ⌝ }
+{
+    if 4 < e.kind {
+        return 4;
+    }
+    if bad_thread(n, e.kind, e.thread) {
+        return 5;
+    }
+    let p = e.parameters;
+    if bad_parameters(e.kind, p) {
+        return 6;
+    }
+    0
+}
+
+// 7 or 8 where the state doesn't allow the event: nothing runs, or the thread is not blocked.
+pub(super) fn state_status(kind: u8, idle: bool, blocked: bool) -> u8
+    ensures { λ r. ⌜ r ≡ stateStatusOf kind idle blocked ⌝ }
+{
+    if kind == 1 {
+        return when(idle, 7);
+    }
+    if kind == 2 {
+        return when(idle, 7);
+    }
+    if kind == 3 {
+        return when(!blocked, 8);
+    }
+    0
+}
+
+// The number n where the test is true.
+fn when(test: bool, n: u8) -> u8
+    ensures { λ r. ⌜ r ≡ cond test n 0 ⌝ }
+{
+    if test {
+        return n;
+    }
+    0
+}
+
+// A thread with another server.
+pub(super) fn with_server(t: Thread, v: Server) -> Thread
+    ensures { λ r. ⌜ r ≡ withServer v t ⌝ }
+{
+    let p = t.parameters;
+    Thread {
+        parameters: p,
+        blocked: t.blocked,
+        total: t.total,
+        left: t.left,
+        server: v,
+    }
+}
