@@ -28,6 +28,7 @@ mod tests; // tests.rt: what soundness asks of the pending entries
 pub const ENTRIES: usize = 8;
 
 // Capacity, the charged time that is not yet scheduled (01's U), and the activation time.
+#[repr(C)]
 pub struct Server {
     pub capacity: u64,
     pub used: u64,

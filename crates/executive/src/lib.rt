@@ -13,6 +13,7 @@ mod opening; // opening.rt: the state that a table of threads gives
 mod parts; // parts.rt: what an event does to one thread and its account
 
 // Status, the running thread or 255, the next moment or 0, and the state.
+#[repr(C)]
 pub struct Answer {
     pub status: u8,
     pub running: u8,

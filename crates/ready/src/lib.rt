@@ -131,14 +131,18 @@ pub fn move_to_tail(lists: &mut [u8; 1056], word: u32, i: u8, from: u8, to: u8) 
 fn all_zero(s: &[u8]) -> bool
     ensures { λ r. ⌜ r ≡ all (zeros (now (s .entry))) ⌝ }
 {
+    // to the end in any case: a loop that may return early is compiled byte by byte
+    let mut clean = true;
     let mut j: usize = 0;
     while j < s.len() {
-        if s[j] != 0 {
-            return false;
-        }
+        let x = s[j];
         j = j + 1;
+        if x != 0 {
+            clean = false;
+            continue;
+        }
     }
-    true
+    clean
 }
 
 // Strikes the threads of s off `left`, where each must still have the place p.

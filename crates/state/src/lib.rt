@@ -16,6 +16,7 @@ mod tests; // tests.rt: what soundness asks of one thread
 
 // One thread: its parameters, whether it is blocked, its total run time, the quantum left of an RR thread, and the
 // capacity, U and activation time of a sporadic one.
+#[repr(C)]
 pub struct Thread {
     pub parameters: Parameters,
     pub blocked: bool,
@@ -26,6 +27,7 @@ pub struct Thread {
 
 // The pending replenishments of thread i are counts[i] and the eight places of dues and amounts from i * 8 on.
 // The lists of the priorities are the array of the crate `ready`.
+#[repr(C)]
 pub struct State {
     pub header: Header,
     pub now: u64,

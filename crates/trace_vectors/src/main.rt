@@ -1,7 +1,4 @@
-// Runs the cases of the trace file: files that are made and damaged here, and then a stored file for each argument. Of the stored
-// ones 0 to 23 are files of every kind of fault, 24 to 29 have filler bytes that are not 0, 30 and 31 are the longest, and the rest
-// are traces whose events may be refused, which reading does not judge.
-ghost use Rattle.io.specs.Counts.{Counts};
+// Runs the cases of the trace file: files that are made and damaged here. Stored files are run by `replay_vectors`.
 use libc::STDOUT_FILENO;
 use records::Event;
 use records::Header;
@@ -224,51 +221,7 @@ fn order() {
     line(b"2 threads, 3 events, no room", made(2, 3, &mut file, 0));
 }
 
-// The whole of a file that fits the buffer; a file that can't be opened is named on the error output.
-fn stored(name: &[u8], file: &mut [u8]) -> usize
-    ensures { λ r. ⌜ Counts r (now (file .exit)) ⌝ }
-{
-    let fd = os::open_read(name);
-    if fd < 0 {
-        os::fail(name);
-        return 0;
-    }
-    let n = io::read_full(fd, file);
-    libc::close(fd);
-    n
-}
-
-// Reads a stored file and writes what was read into a cleared buffer, which is compared whole: with the file where it is
-// accepted, and with the cleared buffer where it is refused.
-fn rewritten(name: &[u8]) {
-    let mut file = io::large_buffer();
-    let mut out = io::large_buffer();
-    let n = stored(name, &mut file);
-    let w = trace::copy(&file[..n], &mut out);
-    line(name, wide(w.status));
-    let cleared = io::large_buffer();
-    if w.status == 0 {
-        if check::same(&file, &out) {
-            io::write_all(STDOUT_FILENO, b"same\n");
-        }
-        return;
-    }
-    if check::same(&cleared, &out) {
-        io::write_all(STDOUT_FILENO, b"unchanged\n");
-    }
-}
-
-fn argument(i: usize) {
-    let mut name = [0u8; 64];
-    let n = os::arg(i, &mut name);
-    if os::errno() != 0 {
-        os::fail(b"argument");
-        return;
-    }
-    rewritten(&name[..n]);
-}
-
-fn made_here() {
+fn main() {
     lengths();
     headers();
     fillers();
@@ -277,14 +230,4 @@ fn made_here() {
     counts();
     rooms();
     order();
-}
-
-fn main() {
-    made_here();
-    let n = os::arg_count();
-    let mut i = 1;
-    while i < n {
-        argument(i);
-        i += 1;
-    }
 }

@@ -1,6 +1,7 @@
--- `ready::all_zero` meets its contract: what is left to test gives the whole answer.
+-- `ready::all_zero` meets its contract: what was seen and what is left to test give the whole answer.
 use Prim.Native.Nat.{ℕ, _-_, _≤_}
 use mathlib.Core.Path.{_≡_, refl, sym, ap, _∙_}
+use mathlib.Core.Bool.{Bool, true, false, cond}
 use mathlib.Core.List.{List, []}
 use native.Mathlib.Omega.{arith}
 use lib.ListN.{length, drop, drop-of-length-le}
@@ -9,22 +10,25 @@ use Rattle.ready.proofs.StepLaws.{zeros-here, zeros-next}
 use Rattle.ready.proofs.all_zero.Statement.{statement}
 use Rattle.ready.proofs.all_zero.Tie as tie
 
+never : (b : Bool) → cond b false false ≡ false
+never true = refl
+never false = refl
+
+itself : (b : Bool) → b ≡ cond b true false
+itself true = refl
+itself false = refl
+
 abbrev Inv-loop : tie.InvT-loop
-Inv-loop s j₀ j = (j ≤ length s) × (all (zeros (drop j s)) ≡ all (zeros s))
+Inv-loop s clean₀ j₀ clean j = (j ≤ length s) × (cond clean (all (zeros (drop j s))) false ≡ all (zeros s))
 
 abbrev μ-loop : tie.MeasureT-loop
-μ-loop s j₀ j = length s - j
+μ-loop s clean₀ j₀ clean j = length s - j
 
 loop-holds : tie.Need-loop-holds Inv-loop μ-loop
 loop-holds c = (omega arith, refl)
 
-shared-slice-read-if1 : tie.Need-shared-slice-read-if1 Inv-loop μ-loop
-shared-slice-read-if1 c = omega arith
-
-returns : tie.Need-returns Inv-loop μ-loop
-returns c =
-    let b = c .before .before .before in
-    sym (zeros-here (b .before .args .s .now) (b .loop .j) (omega arith) (c .if1 .taken)) ∙ b .loop .inv .1
+shared-slice-read-x : tie.Need-shared-slice-read-x Inv-loop μ-loop
+shared-slice-read-x c = omega arith
 
 add-j : tie.Need-add-j Inv-loop μ-loop
 add-j c = omega arith
@@ -35,15 +39,29 @@ loop-less c = omega arith
 loop-again : tie.Need-loop-again Inv-loop μ-loop
 loop-again c =
     let b = c .before .before .before in
-    (omega arith, sym (zeros-next (b .before .args .s .now) (b .loop .j) (omega arith) (c .if1 .left)) ∙ b .loop .inv .1)
+    let l = b .loop in
+    let e = zeros-here (b .before .args .s .now) (l .j) (omega arith) (c .if1 .taken) in
+    (omega arith, sym (never (l .clean)) ∙ sym (ap (λ (t : Bool). cond (l .clean) t false) e) ∙ l .inv .1)
 
-returns-2 : tie.Need-returns-2 Inv-loop μ-loop
+loop-less-2 : tie.Need-loop-less-2 Inv-loop μ-loop
+loop-less-2 c = omega arith
+
+loop-again-2 : tie.Need-loop-again-2 Inv-loop μ-loop
+loop-again-2 c =
+    let b = c .before .before .before in
+    let l = b .loop in
+    let e = zeros-next (b .before .args .s .now) (l .j) (omega arith) (c .if1 .left) in
+    (omega arith, sym (ap (λ (t : Bool). cond (l .clean) t false) e) ∙ l .inv .1)
+
+returns : tie.Need-returns Inv-loop μ-loop
 unfolding all
-returns-2 c =
+returns c =
     let b = c .before in
     let s = b .before .args .s .now in
     let d : drop (b .loop .j) s ≡ [] = drop-of-length-le s {i = b .loop .j} (omega arith) in
-    sym (ap (λ (t : List ℕ). all (zeros t)) d) ∙ b .loop .inv .1
+    itself (b .loop .clean)
+    ∙ sym (ap (λ (t : List ℕ). cond (b .loop .clean) (all (zeros t)) false) d)
+    ∙ b .loop .inv .1
 
 pub all-zero-spec : {M : Type 1} → statement M
 all-zero-spec =
@@ -52,9 +70,10 @@ all-zero-spec =
     Inv-loop
     μ-loop
     loop-holds
-    shared-slice-read-if1
-    returns
+    shared-slice-read-x
     add-j
     loop-less
     loop-again
-    returns-2)
+    loop-less-2
+    loop-again-2
+    returns)

@@ -1,17 +1,14 @@
--- `trace_vectors::main` is safe and ends: each turn takes the next argument.
+-- `replay_vectors::main` is safe and ends: each turn takes the next argument.
 use Prim.Native.Nat.{_-_}
 use native.Mathlib.Omega.{arith}
-use Rattle.trace_vectors.proofs.main.Statement.{statement}
-use Rattle.trace_vectors.proofs.main.Tie as tie
+use Rattle.replay_vectors.proofs.main.Statement.{statement}
+use Rattle.replay_vectors.proofs.main.Tie as tie
 
 abbrev Inv-loop : tie.InvT-loop
 Inv-loop n i₀ i = Unit {0}
 
 abbrev μ-loop : tie.MeasureT-loop
 μ-loop n i₀ i = n - i
-
-made-here-requires : tie.Need-made-here-requires Inv-loop μ-loop
-made-here-requires c κs = tt
 
 arg-count-requires : tie.Need-arg-count-requires Inv-loop μ-loop
 arg-count-requires c κs = tt
@@ -40,7 +37,6 @@ main-spec =
     (tie.spec
     Inv-loop
     μ-loop
-    made-here-requires
     arg-count-requires
     loop-holds
     argument-requires

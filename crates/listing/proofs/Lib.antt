@@ -1,0 +1,4 @@
+-- Laws that the crates above use.
+pub mod LineLaws
+pub mod PrintLaws
+pub mod ListingLaws

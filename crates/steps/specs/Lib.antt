@@ -1,0 +1,2 @@
+-- What a reader of `steps` must believe.
+pub mod Steps

@@ -1,0 +1,3 @@
+-- What a reader of `text` must believe.
+pub mod Decimal
+pub mod Placed
