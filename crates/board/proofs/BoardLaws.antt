@@ -1,0 +1,22 @@
+-- What is made of an answer, of a read and of a test, where these are known.
+use Prim.Native.Nat.{ℕ}
+use mathlib.Core.Path.{_≡_, ap, sym}
+use mathlib.Core.Bool.{Bool, true, false, cond}
+use Rattle.executive.specs.declared.Answer.{Answer}
+use Rattle.trace.specs.declared.Contents.{Contents}
+use Rattle.board.specs.Board.{doneOf, foundOf}
+
+pub done-is : (a b : Answer) → a ≡ b → doneOf a ≡ doneOf b
+done-is a b e = ap doneOf e
+
+pub found-is : (c d : Contents) → c ≡ d → foundOf c ≡ foundOf d
+found-is c d e = ap foundOf e
+
+abbrev number : Bool → ℕ
+number b = cond b 1 0
+
+pub number-true : (b : Bool) → b ≡ true → 1 ≡ number b
+number-true b e = sym (ap number e)
+
+pub number-false : (b : Bool) → b ≡ false → 0 ≡ number b
+number-false b e = sym (ap number e)

@@ -1,0 +1,2 @@
+-- Laws that the proofs of `board` share.
+pub mod BoardLaws

@@ -1,0 +1,18 @@
+-- `board::thawonlai_sound` meets its contract.
+use borrow.Author.Needs.{needs}
+use mathlib.Core.Path.{sym, _∙_}
+use Rattle.board.proofs.BoardLaws.{number-true, number-false}
+use Rattle.board.proofs.thawonlai_sound.Statement.{statement}
+use Rattle.board.proofs.thawonlai_sound.Tie as tie
+
+sound-requires : tie.Need-sound-requires
+sound-requires c κs = search needs
+
+returns : tie.Need-returns
+returns c = let e = sym (c .before .sound .ensures) ∙ c .if1 .taken in search (number-true, e)
+
+returns-2 : tie.Need-returns-2
+returns-2 c = let e = sym (c .before .sound .ensures) ∙ c .if1 .left in search (number-false, e)
+
+pub thawonlai-sound-spec : {M : Type 1} → statement M
+thawonlai-sound-spec = tie.close (tie.spec sound-requires returns returns-2)

@@ -1,0 +1,261 @@
+//! The proved code's exported functions, declared again, with safe functions over them, and the
+//! conversions between its state and the model's. Every field of one stands for a field of the
+//! other, so two states are equal exactly when their conversions are.
+
+use model::{PENDING, PRIORITIES, THREADS};
+
+#[repr(C)]
+#[derive(Clone, Copy, Debug, Default, PartialEq, Eq)]
+pub struct Parameters {
+    pub policy: u8,
+    pub priority: u8,
+    pub low: u8,
+    pub max_repl: u8,
+    pub flag: u32,
+    pub budget: u64,
+    pub period: u64,
+}
+
+#[repr(C)]
+#[derive(Clone, Copy, Debug, PartialEq, Eq)]
+pub struct Event {
+    pub time: u64,
+    pub kind: u8,
+    pub thread: u8,
+    pub parameters: Parameters,
+}
+
+#[repr(C)]
+#[derive(Clone, Copy, Debug, Default, PartialEq, Eq)]
+pub struct Header {
+    pub n: u32,
+    pub start: u64,
+}
+
+#[repr(C)]
+#[derive(Clone, Copy, Debug, Default, PartialEq, Eq)]
+pub struct Server {
+    pub capacity: u64,
+    pub used: u64,
+    pub activation: u64,
+}
+
+#[repr(C)]
+#[derive(Clone, Copy, Debug, Default, PartialEq, Eq)]
+pub struct Thread {
+    pub parameters: Parameters,
+    pub blocked: bool,
+    pub total: u64,
+    pub left: u64,
+    pub server: Server,
+}
+
+const ROW: usize = THREADS + 1;
+
+#[repr(C)]
+#[derive(Clone, Copy, Debug, PartialEq, Eq)]
+pub struct State {
+    pub header: Header,
+    pub now: u64,
+    pub idle: u64,
+    pub word: u32,
+    pub threads: [Thread; THREADS],
+    pub counts: [u8; THREADS],
+    pub dues: [u64; THREADS * PENDING],
+    pub amounts: [u64; THREADS * PENDING],
+    pub lists: [u8; PRIORITIES * ROW],
+}
+
+#[repr(C)]
+#[derive(Clone, Copy, Debug, PartialEq, Eq)]
+pub struct Reply {
+    pub status: u8,
+    pub running: u8,
+    pub next: u64,
+}
+
+#[repr(C)]
+#[derive(Clone, Copy, Debug)]
+pub struct Answer {
+    pub status: u8,
+    pub running: u8,
+    pub next: u64,
+    pub state: State,
+}
+
+#[repr(C)]
+#[derive(Clone, Copy)]
+pub struct Table {
+    pub threads: [Parameters; THREADS],
+}
+
+#[repr(C)]
+#[derive(Clone, Copy, Debug, PartialEq, Eq)]
+pub struct Found {
+    pub status: u8,
+    pub n: u32,
+    pub start: u64,
+    pub count: usize,
+}
+
+#[repr(C)]
+#[derive(Clone, Copy, Debug, PartialEq, Eq)]
+pub struct Written {
+    pub status: u8,
+    pub total: usize,
+}
+
+mod exported {
+    use super::*;
+    // A slice is a pointer and then a length.
+    extern "C" {
+        pub fn thawonlai_event(state: *mut State, e: Event) -> Reply;
+        pub fn thawonlai_open(start: u64, n: u32, table: Table) -> Answer;
+        pub fn thawonlai_sound(s: State) -> u8;
+        pub fn thawonlai_read(file: *const u8, length: usize) -> Found;
+        pub fn thawonlai_copy(file: *const u8, length: usize, out: *mut u8, room: usize)
+            -> Written;
+    }
+}
+
+// None of the functions has a `requires`: any values may be handed in.
+
+pub fn event(state: &mut State, e: Event) -> Reply {
+    unsafe { exported::thawonlai_event(state, e) }
+}
+
+pub fn open(start: u64, n: u32, table: Table) -> Answer {
+    unsafe { exported::thawonlai_open(start, n, table) }
+}
+
+pub fn sound(s: &State) -> u8 {
+    unsafe { exported::thawonlai_sound(*s) }
+}
+
+pub fn read(file: &[u8]) -> Found {
+    unsafe { exported::thawonlai_read(file.as_ptr(), file.len()) }
+}
+
+pub fn copy(file: &[u8], out: &mut [u8]) -> Written {
+    unsafe { exported::thawonlai_copy(file.as_ptr(), file.len(), out.as_mut_ptr(), out.len()) }
+}
+
+// ------------------------------------------------------------- conversions
+
+impl From<model::Parameters> for Parameters {
+    fn from(p: model::Parameters) -> Parameters {
+        Parameters {
+            policy: p.policy,
+            priority: p.priority,
+            low: p.low,
+            max_repl: p.max_repl,
+            flag: p.flag,
+            budget: p.budget,
+            period: p.period,
+        }
+    }
+}
+
+impl From<Parameters> for model::Parameters {
+    fn from(p: Parameters) -> model::Parameters {
+        model::Parameters {
+            policy: p.policy,
+            priority: p.priority,
+            low: p.low,
+            max_repl: p.max_repl,
+            flag: p.flag,
+            budget: p.budget,
+            period: p.period,
+        }
+    }
+}
+
+impl From<model::Event> for Event {
+    fn from(e: model::Event) -> Event {
+        Event {
+            time: e.time,
+            kind: e.kind,
+            thread: e.thread,
+            parameters: e.parameters.into(),
+        }
+    }
+}
+
+pub fn table_of(table: &[model::Parameters; THREADS]) -> Table {
+    Table {
+        threads: table.map(Parameters::from),
+    }
+}
+
+impl From<&model::State> for State {
+    fn from(s: &model::State) -> State {
+        let mut r = State {
+            header: Header {
+                n: s.n,
+                start: s.start,
+            },
+            now: s.now,
+            idle: s.idle,
+            word: s.word,
+            threads: [Thread::default(); THREADS],
+            counts: [0; THREADS],
+            dues: [0; THREADS * PENDING],
+            amounts: [0; THREADS * PENDING],
+            lists: [0; PRIORITIES * ROW],
+        };
+        for (i, t) in s.threads.iter().enumerate() {
+            r.threads[i] = Thread {
+                parameters: t.parameters.into(),
+                blocked: t.blocked,
+                total: t.total,
+                left: t.quantum,
+                server: Server {
+                    capacity: t.capacity,
+                    used: t.used,
+                    activation: t.activation,
+                },
+            };
+            r.counts[i] = t.pending;
+            r.dues[i * PENDING..][..PENDING].copy_from_slice(&t.dues);
+            r.amounts[i * PENDING..][..PENDING].copy_from_slice(&t.amounts);
+        }
+        for (k, list) in s.lists.iter().enumerate() {
+            r.lists[k * ROW] = list.length;
+            r.lists[k * ROW + 1..][..THREADS].copy_from_slice(&list.members);
+        }
+        r
+    }
+}
+
+impl From<&State> for model::State {
+    fn from(s: &State) -> model::State {
+        let mut r = model::State {
+            n: s.header.n,
+            start: s.header.start,
+            now: s.now,
+            idle: s.idle,
+            word: s.word,
+            ..model::State::default()
+        };
+        for (i, t) in s.threads.iter().enumerate() {
+            let to = &mut r.threads[i];
+            to.parameters = t.parameters.into();
+            to.blocked = t.blocked;
+            to.pending = s.counts[i];
+            to.total = t.total;
+            to.quantum = t.left;
+            to.capacity = t.server.capacity;
+            to.used = t.server.used;
+            to.activation = t.server.activation;
+            to.dues.copy_from_slice(&s.dues[i * PENDING..][..PENDING]);
+            to.amounts
+                .copy_from_slice(&s.amounts[i * PENDING..][..PENDING]);
+        }
+        for (k, list) in r.lists.iter_mut().enumerate() {
+            list.length = s.lists[k * ROW];
+            list.members
+                .copy_from_slice(&s.lists[k * ROW + 1..][..THREADS]);
+        }
+        r
+    }
+}
