@@ -17,7 +17,14 @@ fn put_field(out: &mut [u8], at: usize, n: u64, end: u8) -> usize
 }
 
 // The line of event i: its status, the running thread, the next moment.
-pub fn put_event(out: &mut [u8], at: usize, i: u64, status: u8, running: u8, next: u64) -> usize
+pub(super) fn put_event(
+    out: &mut [u8],
+    at: usize,
+    i: u64,
+    status: u8,
+    running: u8,
+    next: u64,
+) -> usize
     requires { ⌜ (i < 10000) × (at + 34 ≤ length (now out)) ⌝ }
     ensures { λ r. ⌜ Put (now (out .entry)) at (eventLine i status running next) (now (out .exit)) r ⌝ }
     ensures { λ r. ⌜ r ≤ at + 34 ⌝ }
@@ -29,7 +36,14 @@ pub fn put_event(out: &mut [u8], at: usize, i: u64, status: u8, running: u8, nex
 }
 
 // The line of thread i: its capacity, its pending count, its total.
-pub fn put_thread(out: &mut [u8], at: usize, i: u64, capacity: u64, count: u8, total: u64) -> usize
+pub(super) fn put_thread(
+    out: &mut [u8],
+    at: usize,
+    i: u64,
+    capacity: u64,
+    count: u8,
+    total: u64,
+) -> usize
     requires { ⌜ (i < 100) × (at + 56 ≤ length (now out)) ⌝ }
     ensures { λ r. ⌜ Put (now (out .entry)) at (threadLine i capacity count total) (now (out .exit)) r ⌝ }
     ensures { λ r. ⌜ r ≤ at + 56 ⌝ }
@@ -42,7 +56,7 @@ pub fn put_thread(out: &mut [u8], at: usize, i: u64, capacity: u64, count: u8, t
 }
 
 // The line of the idle time.
-pub fn put_idle(out: &mut [u8], at: usize, idle: u64) -> usize
+pub(super) fn put_idle(out: &mut [u8], at: usize, idle: u64) -> usize
     requires { ⌜ at + 26 ≤ length (now out) ⌝ }
     ensures { λ r. ⌜ Put (now (out .entry)) at (idleLine idle) (now (out .exit)) r ⌝ }
     ensures { λ r. ⌜ r ≤ at + 26 ⌝ }
@@ -52,7 +66,7 @@ pub fn put_idle(out: &mut [u8], at: usize, idle: u64) -> usize
 }
 
 // The line of a file that can't be replayed.
-pub fn put_refused(out: &mut [u8], at: usize, status: u8) -> usize
+pub(super) fn put_refused(out: &mut [u8], at: usize, status: u8) -> usize
     requires { ⌜ at + 12 ≤ length (now out) ⌝ }
     ensures { λ r. ⌜ Put (now (out .entry)) at (refusedLine status) (now (out .exit)) r ⌝ }
     ensures { λ r. ⌜ r ≤ at + 12 ⌝ }
@@ -62,7 +76,7 @@ pub fn put_refused(out: &mut [u8], at: usize, status: u8) -> usize
 }
 
 // The first line: what the columns of the events are.
-pub fn put_header(out: &mut [u8], at: usize) -> usize
+pub(super) fn put_header(out: &mut [u8], at: usize) -> usize
     requires { ⌜ at + length (headerLine) ≤ length (now out) ⌝ }
     ensures { λ r. ⌜ Put (now (out .entry)) at (headerLine) (now (out .exit)) r ⌝ }
 {

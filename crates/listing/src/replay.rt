@@ -67,7 +67,7 @@ fn put_threads(out: &mut [u8], at: usize, s: State) -> usize
 }
 
 // The whole listing from the buffer's start on.
-pub fn put_listing(out: &mut [u8], file: &[u8]) -> usize
+pub(super) fn put_listing(out: &mut [u8], file: &[u8]) -> usize
     requires { ⌜ largest ≤ length (now out) ⌝ }
     ensures { λ r. ⌜ Put (now (out .entry)) 0 (listingOf (now (file .entry))) (now (out .exit)) r ⌝ }
     ensures { λ r. ⌜ r ≤ largest ⌝ }
