@@ -3,11 +3,11 @@ use records::Parameters;
 use state::State;
 use state::Thread;
 
-pub fn byte(value: u64) -> u8 {
+pub(super) fn byte(value: u64) -> u8 {
     (value % 256) as u8
 }
 
-pub fn word(value: u64) -> u32 {
+pub(super) fn word(value: u64) -> u32 {
     (value % 4294967296) as u32
 }
 
@@ -89,7 +89,7 @@ fn of_threads(s: State, what: u64, at: usize, value: u64) -> State {
 }
 
 // The state with the field `what`, at `place`, changed to `value`; 34 is a byte of the lists.
-pub fn changed(s: State, what: u64, place: u64, value: u64) -> State {
+pub(super) fn changed(s: State, what: u64, place: u64, value: u64) -> State {
     let at = place as usize;
     if what < 11 {
         return of_clocks(s, what, value);

@@ -73,7 +73,7 @@ fn same_arrays(a: State, b: State) -> bool {
 }
 
 // Whether two states agree in every field.
-pub fn same_state(a: State, b: State) -> bool {
+pub(super) fn same_state(a: State, b: State) -> bool {
     (a.header.n == b.header.n)
         & (a.header.start == b.header.start)
         & (a.now == b.now)

@@ -12,7 +12,7 @@ pub struct Line {
 }
 
 // A line with nothing read of its command.
-pub fn start(from: usize, command: usize) -> Line {
+pub(super) fn start(from: usize, command: usize) -> Line {
     Line {
         op: 0,
         from: from,
@@ -58,7 +58,7 @@ fn with_mark(l: Line, b: u8) -> Line {
 }
 
 // The line with one byte more, after which the input goes on at `next`.
-pub fn with_byte(l: Line, b: u8, next: usize) -> Line {
+pub(super) fn with_byte(l: Line, b: u8, next: usize) -> Line {
     if l.op == b'#' {
         return l;
     }

@@ -20,7 +20,7 @@ fn list(lists: [u8; 1056], p: usize) -> [u64; 4] {
 }
 
 // What the command asks of thread or list i; 99 where there is no such command, thread or list.
-pub fn seen(s: State, op: u8, i: usize) -> [u64; 4] {
+pub(super) fn seen(s: State, op: u8, i: usize) -> [u64; 4] {
     if op == b'l' {
         let lists = s.lists;
         return list(lists, i);

@@ -7,12 +7,12 @@ use records::Parameters;
 use state::State;
 use state::Thread;
 
-pub fn wide(x: u8) -> u64 {
+pub(super) fn wide(x: u8) -> u64 {
     x as u64
 }
 
 // The seven parameters that stand from place k on.
-pub fn parameters(x: [u64; 20], k: usize) -> Parameters {
+pub(super) fn parameters(x: [u64; 20], k: usize) -> Parameters {
     if 13 < k {
         return none();
     }
@@ -27,7 +27,7 @@ pub fn parameters(x: [u64; 20], k: usize) -> Parameters {
     }
 }
 
-pub fn none() -> Parameters {
+pub(super) fn none() -> Parameters {
     Parameters {
         policy: 0,
         priority: 0,
@@ -52,7 +52,7 @@ fn kind_of(op: u8, number: u64) -> u8 {
 }
 
 // An event: the time, the thread, the parameters.
-pub fn event(op: u8, x: [u64; 20]) -> Event {
+pub(super) fn event(op: u8, x: [u64; 20]) -> Event {
     Event {
         time: x[0],
         kind: kind_of(op, x[9]),
@@ -62,7 +62,7 @@ pub fn event(op: u8, x: [u64; 20]) -> Event {
 }
 
 // No threads and zeros.
-pub fn zeros() -> State {
+pub(super) fn zeros() -> State {
     let nobody = Thread {
         parameters: none(),
         blocked: false,

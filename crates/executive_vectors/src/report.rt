@@ -39,7 +39,7 @@ fn counted(t: Tally, right: bool) -> Tally {
 }
 
 // The name of a case: a part of the input.
-pub fn name(file: &[u8], from: usize, to: usize) {
+pub(super) fn name(file: &[u8], from: usize, to: usize) {
     if from <= to {
         if to <= file.len() {
             text(&file[from..to]);
@@ -48,7 +48,7 @@ pub fn name(file: &[u8], from: usize, to: usize) {
 }
 
 // What follows the name, and the tally with the case.
-pub fn compared(t: Tally, got: [u64; 4], want: [u64; 4]) -> Tally {
+pub(super) fn compared(t: Tally, got: [u64; 4], want: [u64; 4]) -> Tally {
     if equal(got, want) {
         text(b" right\n");
         return counted(t, true);
@@ -60,7 +60,7 @@ pub fn compared(t: Tally, got: [u64; 4], want: [u64; 4]) -> Tally {
 }
 
 // The last line.
-pub fn finish(t: Tally) {
+pub(super) fn finish(t: Tally) {
     io::print_decimal(STDOUT_FILENO, t.cases as u64);
     text(b" cases, ");
     io::print_decimal(STDOUT_FILENO, t.wrong as u64);

@@ -26,7 +26,7 @@ struct Outcome {
     state: State,
 }
 
-pub fn start() -> Run {
+pub(super) fn start() -> Run {
     let s = make::zeros();
     Run {
         tally: Tally { cases: 0, wrong: 0 },
@@ -178,7 +178,7 @@ fn is_case(op: u8) -> bool {
 }
 
 // Runs a line of the input.
-pub fn step(r: Run, l: Line, file: &[u8]) -> Run {
+pub(super) fn step(r: Run, l: Line, file: &[u8]) -> Run {
     let op = l.op;
     let x = l.numbers;
     if !is_case(op) {
