@@ -1,14 +1,16 @@
-// Links target/staticlib/libboard.a of the repository, which `rt staticlib board` writes.
+// Links the static libraries of the repository, which `rt staticlib board` and `rt staticlib board_trace` write.
 use std::path::Path;
 
 fn main() {
     let here = std::env::var("CARGO_MANIFEST_DIR").expect("cargo names the package's folder");
     let folder = Path::new(&here).join("../../target/staticlib");
-    let archive = folder.join("libboard.a");
-    if !archive.exists() {
-        panic!("target/staticlib/libboard.a is missing: run `rt staticlib board` first");
-    }
-    println!("cargo:rerun-if-changed={}", archive.display());
     println!("cargo:rustc-link-search=native={}", folder.display());
-    println!("cargo:rustc-link-lib=static=board");
+    for name in ["board", "board_trace"] {
+        let archive = folder.join(format!("lib{name}.a"));
+        if !archive.exists() {
+            panic!("{} is missing: run `rt staticlib {name}` first", archive.display());
+        }
+        println!("cargo:rerun-if-changed={}", archive.display());
+        println!("cargo:rustc-link-lib=static={name}");
+    }
 }

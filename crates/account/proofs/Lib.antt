@@ -2,5 +2,4 @@
 pub mod ChargeLaws
 pub mod EntryLaws
 pub mod RuleLaws
-pub mod ScanLaws
 pub mod SoundLaws

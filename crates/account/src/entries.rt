@@ -18,7 +18,7 @@ pub(super) fn push(q: Pending, due: u64, amount: u64) -> Pending
     r
 }
 
-pub(super) fn wide(x: u8) -> usize
+fn wide(x: u8) -> usize
     ensures { λ r. ⌜ r ≡ x ⌝ }
 {
     x as usize

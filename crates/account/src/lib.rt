@@ -1,7 +1,6 @@
 // One sporadic account: the rules of SCHED_SPORADIC over its parameters and itself, by value. No thread, no list.
 ghost use mathlib.Core.Path.{_≡_};
 ghost use Prim.Native.Nat.{_+_, _<_, _≤_, _^_};
-ghost use mathlib.Core.Bool.{false, cond};
 ghost use Rattle.account.specs.Account.{atUpper, firstDue, freshAccount};
 ghost use Rattle.account.specs.Rules.{
   charged,
@@ -18,11 +17,9 @@ ghost use Rattle.account.specs.Rules.{
   allBack,
   returning,
 };
-ghost use Rattle.account.specs.Sound.{soundAt};
 use records::Parameters;
 
 mod entries; // entries.rt: an entry comes, and the first one goes
-mod tests; // tests.rt: what soundness asks of the pending entries
 
 // How many pending replenishments an account has places for.
 pub const ENTRIES: usize = 8;
@@ -307,7 +304,9 @@ pub fn return_due(p: Parameters, a: Account, blocked: bool, now: u64) -> Outcome
 {
     let q = a.pending;
     if first_is_due(q, now) {
-        let b = all_back(p, a, now);
+        // one for certain, and rarely more: the loop is left at once
+        let first = first_back(p, a);
+        let b = all_back(p, first, now);
         if blocked {
             return Outcome {
                 account: b,
@@ -330,40 +329,4 @@ pub fn return_due(p: Parameters, a: Account, blocked: bool, now: u64) -> Outcome
         account: a,
         place: Place::Stays,
     }
-}
-
-// Whether the account is sound at a time, for any values of its fields.
-pub fn sound(p: Parameters, a: Account, blocked: bool, start: u64, now: u64) -> bool
-    ensures { λ r. ⌜ r ≡ soundAt start now blocked p a ⌝ }
-{
-    let s = a.server;
-    let count = a.pending.count;
-    let up = runs_upper(p, s.capacity, count, blocked);
-    if !tests::numbers_hold(p, s, count, up, start, now) {
-        return false;
-    }
-    let n = entries::wide(count);
-    let amounts = a.pending.amounts;
-    if !tests::amounts_hold(p.budget, s.capacity, s.used, amounts, n) {
-        return false;
-    }
-    let dues = a.pending.dues;
-    let base = tests::either(up, s.activation, now);
-    if !tests::dues_hold(dues, n, now, base, p.period) {
-        return false;
-    }
-    if !tests::places_hold(dues, n) {
-        return false;
-    }
-    tests::places_hold(amounts, n)
-}
-
-// A runnable thread at its upper priority.
-fn runs_upper(p: Parameters, capacity: u64, count: u8, blocked: bool) -> bool
-    ensures { λ r. ⌜ r ≡ cond blocked false (atUpper p capacity count) ⌝ }
-{
-    if blocked {
-        return false;
-    }
-    at_upper(p, capacity, count)
 }

@@ -43,7 +43,7 @@ fn print_account(p: Parameters, a: Account, blocked: bool, now: u64) {
     let q = a.pending;
     print_entries(q);
     io::write_all(STDOUT_FILENO, b"|");
-    if account::sound(p, a, blocked, 0, now) {
+    if account_sound::sound(p, a, blocked, 0, now) {
         io::write_all(STDOUT_FILENO, b" 1");
     } else {
         io::write_all(STDOUT_FILENO, b" 0");
@@ -267,7 +267,7 @@ fn unconcerned() {
 }
 
 fn check(p: Parameters, a: Account, blocked: bool, start: u64, now: u64) {
-    if account::sound(p, a, blocked, start, now) {
+    if account_sound::sound(p, a, blocked, start, now) {
         io::write_all(STDOUT_FILENO, b"sound ");
     } else {
         io::write_all(STDOUT_FILENO, b"unsound ");

@@ -1,16 +1,12 @@
--- What is made of an answer, of a read and of a test, where these are known.
+-- What is made of an answer and of a test, where these are known.
 use Prim.Native.Nat.{ℕ}
 use mathlib.Core.Path.{_≡_, ap, sym}
 use mathlib.Core.Bool.{Bool, true, false, cond}
 use Rattle.executive.specs.declared.Answer.{Answer}
-use Rattle.trace.specs.declared.Contents.{Contents}
-use Rattle.board.specs.Board.{doneOf, foundOf}
+use Rattle.board.specs.Board.{doneOf}
 
 pub done-is : (a b : Answer) → a ≡ b → doneOf a ≡ doneOf b
 done-is a b e = ap doneOf e
-
-pub found-is : (c d : Contents) → c ≡ d → foundOf c ≡ foundOf d
-found-is c d e = ap foundOf e
 
 abbrev number : Bool → ℕ
 number b = cond b 1 0

@@ -1,2 +1,2 @@
--- What a reader of `board` must believe, over the definitions of `executive`, `state` and `trace`.
+-- What a reader of `board` must believe, over the definitions of `executive` and `state`.
 pub mod Board

@@ -1,19 +1,16 @@
-// The executive and the trace file for programs in other languages: a static library's exported functions.
+// The executive for programs in other languages: a static library's exported functions.
 //
-// A struct is laid out as C lays it out, a `&mut State` is a pointer to one, and a slice is a pointer and then a length.
+// A struct is laid out as C lays it out, and a `&mut State` is a pointer to one.
 // None has a `requires`: any values may be handed in, and bad ones get their status.
 ghost use mathlib.Core.Path.{_≡_};
 ghost use mathlib.Core.Bool.{cond};
-ghost use lib.ListN.{length};
 ghost use Rattle.state.specs.Sound.{soundState};
 ghost use Rattle.executive.specs.Answer.{eventAnswer, openAnswer};
-ghost use Rattle.trace.specs.Write.{copiedOf, copyOf};
-ghost use Rattle.board.specs.Board.{replyOf, doneOf, foundIn};
+ghost use Rattle.board.specs.Board.{replyOf, doneOf};
 use executive::Answer;
 use records::Event;
 use records::Parameters;
 use state::State;
-use trace::Written;
 
 // The answer to an event without its state: status, the running thread or 255, the next moment or 0.
 #[repr(C)]
@@ -34,15 +31,6 @@ pub struct Done {
 #[repr(C)]
 pub struct Table {
     pub threads: [Parameters; 32],
-}
-
-// What a read finds: the status, the number of threads, the start time and the number of events.
-#[repr(C)]
-pub struct Found {
-    pub status: u8,
-    pub n: u32,
-    pub start: u64,
-    pub count: usize,
 }
 
 // An event for a state by value.
@@ -89,28 +77,4 @@ pub extern "C" fn thawonlai_sound(s: State) -> u8
         return 1;
     }
     0
-}
-
-// Reads a trace file: its header and the number of its events.
-#[no_mangle]
-pub extern "C" fn thawonlai_read(file: &[u8]) -> Found
-    ensures { λ r. ⌜ r ≡ foundIn (now (file .entry)) ⌝ }
-{
-    let c = trace::read(file);
-    let header = c.header;
-    Found {
-        status: c.status,
-        n: header.n,
-        start: header.start,
-        count: c.count,
-    }
-}
-
-// Reads a trace file and writes what was read into a buffer: the same bytes.
-#[no_mangle]
-pub extern "C" fn thawonlai_copy(file: &[u8], out: &mut [u8]) -> Written
-    ensures { λ r. ⌜ r ≡ copiedOf (now (file .entry)) (length (now (out .entry))) ⌝ }
-    ensures { λ _. ⌜ now (out .exit) ≡ copyOf (now (file .entry)) (now (out .entry)) ⌝ }
-{
-    trace::copy(file, out)
 }

@@ -12,7 +12,7 @@ use Rattle.passing.specs.Time.{run}
 use Rattle.passing.specs.Sequence.{firstOf, status, answer}
 use Rattle.state.specs.State.{withRow}
 use Rattle.state.specs.Sound.{presentTest, absentTest, soundState}
-use Rattle.moments.specs.Running.{nextDue}
+use Rattle.ticks.specs.Running.{nextDue}
 use Rattle.moments.specs.Moments.{limits, replenish, replenishBelow, fire}
 use Rattle.events.specs.Effects.{effect}
 use Rattle.events.specs.Answers.{fieldStatusOf, stateStatusOf}

@@ -25,7 +25,7 @@ use Rattle.state.specs.declared.State.{State}
 use Rattle.state.specs.Sound.{soundState}
 use Rattle.state.specs.State.{place}
 use Rattle.state.proofs.SoundLaws.{Sound, state-in, state-out}
-use Rattle.moments.specs.Running.{level, head, idles}
+use Rattle.ticks.specs.Running.{level, head, idles}
 use Rattle.moments.specs.Moments.{fire, clock, passed}
 use Rattle.moments.proofs.FireLaws.{header-fire}
 use Rattle.moments.proofs.ChargeLaws.{later, no-word}

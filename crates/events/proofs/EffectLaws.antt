@@ -26,8 +26,8 @@ use Rattle.state.specs.declared.State.{State}
 use Rattle.state.specs.State.{noServer, threadAt, pendingAt, accountAt, assigned, placeOf, place}
 use Rattle.state.proofs.SoundLaws.{noPending, ThreadSound, SoundFrom, Sound, RrTests, SporadicTests, range-out, fifo-out, rr-out, sporadic-out}
 use Rattle.state.proofs.SoundLaws.ThreadSound.{absent, fifo, rr, sporadic}
+use Rattle.ticks.proofs.RunLaws.{by-zero, by-one, by-two}
 use Rattle.moments.specs.Changes.{withServer, withLeft}
-use Rattle.moments.proofs.ChargeLaws.{by-zero, by-one, by-two}
 use Rattle.events.specs.Effects.{withBlocked, fullQuantum, ifSporadic, noAccount, renewed, newAccount}
 
 -- a thread and an account that fit a place of a sound state

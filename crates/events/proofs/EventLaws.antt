@@ -29,10 +29,11 @@ use Rattle.state.specs.declared.State.{State}
 use Rattle.state.specs.State.{noThread, threadAt, pendingAt, accountAt, assigned, placeOf, place}
 use Rattle.state.proofs.SoundLaws.{ThreadSound, SoundFrom, Sound, row-length}
 use Rattle.state.proofs.SoundLaws.ThreadSound.{absent, fifo, rr, sporadic}
-use Rattle.moments.specs.Running.{level, head, idles}
+use Rattle.ticks.specs.Running.{level, head, idles}
+use Rattle.ticks.proofs.RunLaws.{by-zero, by-one, by-two}
 use Rattle.moments.specs.Changes.{withThread, withLists, withServer, withLeft, withAccount}
 use Rattle.moments.proofs.ChangeLaws.{withBound, changed, thread-account}
-use Rattle.moments.proofs.ChargeLaws.{Runs, runs, by-zero, by-one, by-two}
+use Rattle.moments.proofs.ChargeLaws.{Runs, runs}
 use Rattle.moments.proofs.FireLaws.{bounds-same}
 use Rattle.events.specs.Effects.{withBlocked, fullQuantum, ifSporadic, renewed, newAccount, block, yield, wake, set, byKind, effect}
 use Rattle.events.specs.Answers.{badKind, badThread, badParameters, fieldStatusOf, stateStatusOf, fieldStatus, stateStatus}

@@ -9,7 +9,7 @@ use Rattle.passing.specs.Sequence.{Machine, firstOf}
 use Rattle.state.specs.declared.State.{State}
 use Rattle.state.specs.State.{threadAt}
 use Rattle.state.specs.Sound.{soundState}
-use Rattle.moments.specs.Running.{idles, running}
+use Rattle.ticks.specs.Running.{idles, running}
 use Rattle.moments.specs.Moments.{clock}
 use Rattle.events.specs.Effects.{effect}
 

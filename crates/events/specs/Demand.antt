@@ -12,7 +12,7 @@ use Rattle.passing.specs.Sequence.{status, answer}
 use Rattle.passing.specs.Readings.{ExtraReadings}
 use Rattle.state.specs.declared.State.{State}
 use Rattle.state.specs.Sound.{totals, soundState}
-use Rattle.moments.specs.Running.{level, running, next}
+use Rattle.ticks.specs.Running.{level, running, next}
 use Rattle.moments.specs.Moments.{passed}
 use Rattle.events.specs.Answers.{executive}
 use Rattle.events.specs.Opening.{opening}

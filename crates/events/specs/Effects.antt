@@ -13,7 +13,7 @@ use Rattle.ready.specs.Lists.{appended, removed, moved}
 use Rattle.state.specs.declared.Thread.{Thread}
 use Rattle.state.specs.declared.State.{State}
 use Rattle.state.specs.State.{noServer, threadAt, accountAt, assigned}
-use Rattle.moments.specs.Running.{level, head}
+use Rattle.ticks.specs.Running.{level, head}
 use Rattle.moments.specs.Changes.{withThread, withLists, withLeft, withAccount}
 
 abbrev pub withBlocked : Bool → Thread → Thread

@@ -5,3 +5,7 @@ pub mod RequiresLaws
 pub mod AnswerLaws
 pub mod StepLaws
 pub mod OpenLaws
+pub mod KeptLaws
+pub mod ShiftLaws
+pub mod ChangeLaws
+pub mod DoneLaws

@@ -101,7 +101,7 @@ cond-small : (b : Bool) (n m : ℕ) → n ≤ m → cond b n 0 ≤ m
 cond-small true n m l = l
 cond-small false n m l = omega arith
 
-pub field-small : (n : ℕ) (e : Event) → fieldStatusOf n e ≤ 6
+field-small : (n : ℕ) (e : Event) → fieldStatusOf n e ≤ 6
 unfolding fieldStatusOf
 field-small n e = first-small _ _ _ 6 (cond-small (badKind e) 4 6 (omega arith)) (cond-small (badThread n e) 5 6 (omega arith)) (cond-small (badParameters e) 6 6 (omega arith))
 
@@ -110,14 +110,14 @@ unfolding timeStatus
 time-small now time =
     first-small _ _ _ 6 (cond-small (ltb 1000000000000000 time) 3 6 (omega arith)) (cond-small (ltb time now) 1 6 (omega arith)) (cond-small (ltb (now + 1000000) time) 2 6 (omega arith))
 
-pub early-small : (n now : ℕ) (e : Event) → earlyStatus n now e ≤ 6
+pub two-small : (a b m : ℕ) → a ≤ m → b ≤ m → firstOf (a ∷ b ∷ []) ≤ m
 unfolding firstOf
-early-small n now e = go (fieldStatusOf n e) (timeStatus now (e .time)) (field-small n e) (time-small now (e .time))
-  where
-    go : (a b : ℕ) → a ≤ 6 → b ≤ 6 → firstOf (a ∷ b ∷ []) ≤ 6
-    go zero zero p q = omega arith
-    go zero (suc b) p q = q
-    go (suc a) b p q = p
+two-small zero zero m p q = omega arith
+two-small zero (suc b) m p q = q
+two-small (suc a) b m p q = p
+
+pub early-small : (n now : ℕ) (e : Event) → earlyStatus n now e ≤ 6
+early-small n now e = two-small (fieldStatusOf n e) (timeStatus now (e .time)) 6 (field-small n e) (time-small now (e .time))
 
 pub state-small : (k : ℕ) (idle blocked : Bool) → stateStatusOf k idle blocked ≤ 8
 unfolding stateStatusOf firstOf
@@ -130,12 +130,12 @@ state-small k idle blocked = go (cond (eqb k 1) idle (eqb k 2 && idle)) (eqb k 3
 
 -- ---- both parts
 
-first-is : (a b : ℕ) → (a ≡ 0 → ⊥) → a ≡ firstOf (a ∷ b ∷ [])
+pub first-is : (a b : ℕ) → (a ≡ 0 → ⊥) → a ≡ firstOf (a ∷ b ∷ [])
 unfolding firstOf
 first-is zero b d = absurd (d refl)
 first-is (suc a) b d = refl
 
-second-is : (a b : ℕ) → a ≡ 0 → b ≡ firstOf (a ∷ b ∷ [])
+pub second-is : (a b : ℕ) → a ≡ 0 → b ≡ firstOf (a ∷ b ∷ [])
 unfolding firstOf
 second-is zero zero e = refl
 second-is zero (suc b) e = refl

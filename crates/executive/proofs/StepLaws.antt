@@ -1,31 +1,34 @@
--- The answer of a step is that of the definition: refused before time passes, refused at the event's time, or accepted.
-use Prim.Native.Nat.{ℕ, zero, suc, _+_, _≤_, _<_}
+-- The answer to an event, from its status to the state at its time and what it does there.
+use Prim.Native.Nat.{ℕ, zero, suc, _+_, _-_, _≤_, _<_}
 use mathlib.Core.Bool.{Bool, true, false, cond, not}
 use mathlib.Core.Path.{_≡_, refl, sym, ap, _∙_, subst⁻¹}
 use mathlib.Core.List.{[], _∷_}
 use lib.Dec.{ltb, eqb}
 use native.Mathlib.Omega.{arith}
-use borrow.Author.Tests.{ne-eqb}
+use borrow.Author.Tests.{ne-eqb, eqb-true, eqb-false, not-true, not-false}
 use Rattle.records.specs.declared.Event.{Event}
 use Rattle.records.specs.Ranges.{lastTime, longestStep}
-use Rattle.records.proofs.TestLaws.{tests, cond-false}
-use Rattle.ready.specs.Word.{highestOf}
+use Rattle.records.proofs.TestLaws.{tests, cond-false, false-true}
 use Rattle.passing.specs.Sequence.{firstOf, status, accepted, refused, answer}
-use Rattle.passing.proofs.TimeLaws.{sound-advance}
-use Rattle.passing.proofs.SequenceLaws.{answer-accepted, answer-refused, unsound-answer}
+use Rattle.passing.specs.Time.{dueBy}
+use Rattle.passing.proofs.TimeLaws.{due-true, sound-advance, now-advance, advance-advance}
+use Rattle.passing.proofs.SequenceLaws.{answer-accepted, answer-refused, unsound-answer, firstOf-zero}
 use Rattle.state.specs.declared.State.{State}
 use Rattle.state.specs.State.{threadAt}
 use Rattle.state.specs.Sound.{soundState}
 use Rattle.state.proofs.SoundLaws.{state-in, state-out}
-use Rattle.moments.specs.Running.{running, next}
+use Rattle.ticks.specs.Running.{running, next, idles}
 use Rattle.moments.specs.Moments.{clock, passed}
+use Rattle.moments.proofs.ChargeLaws as moments
 use Rattle.moments.proofs.MomentLaws.{passing}
 use Rattle.events.specs.Effects.{effect}
 use Rattle.events.specs.Answers.{fieldStatus, stateStatusOf, stateStatus, executive}
 use Rattle.events.proofs.EventLaws.{effect-sound}
 use Rattle.events.proofs.DemandLaws.{field-passed}
 use Rattle.executive.specs.Answer.{returned, eventAnswer, answered, unread, timeStatus, earlyStatus}
-use Rattle.executive.proofs.StatusLaws.{time-zero, early-small, state-small, early-zero, thread-small}
+use Rattle.executive.specs.Steps.{soundStatus}
+use Rattle.executive.proofs.StatusLaws.{time-zero, two-small, early-small, state-small, first-is, second-is, early-zero, thread-small}
+use Rattle.executive.proofs.KeptLaws.{status-kept}
 
 -- the first of the statuses, where the state is sound
 first-early : (x f a b c d : ℕ) → x ≡ 0 → (firstOf (f ∷ firstOf (a ∷ b ∷ c ∷ []) ∷ []) ≡ 0 → ⊥)
@@ -61,65 +64,169 @@ returned-refused n s d =
 pub unsound-is : (s : State) (e : Event) → soundState s ≡ false → unread 9 s ≡ eventAnswer s e
 unsound-is s e a = ap returned (sym (unsound-answer executive s a e))
 
+-- an event that is accepted from s₀, when time has come to s
+pub record Open (s₀ : State) (e : Event) (s : State) : Type 0 where
+  pub sound : soundState s ≡ true
+  pub by : s .now ≤ e .time
+  pub top : e .time ≤ 1000000000000000
+  pub fields : fieldStatus s e ≡ 0
+  pub allows : stateStatus s e ≡ 0
+  pub same : answered 0 (effect (passed s (e .time)) e) ≡ eventAnswer s₀ e
+
+-- what holds between the turns of an event's loop
+pub record Stage (s₀ : State) (e : Event) (status : ℕ) (s : State) (done : Bool) : Type 0 where
+  pub sound : soundState s ≡ true
+  pub ended : done ≡ true → answered status s ≡ eventAnswer s₀ e
+  pub going : done ≡ false → (status ≡ 0) × Open s₀ e s
+
 module _ (s : State) (e : Event) (a : soundState s ≡ true) where
   refused-is : (n : ℕ) → status executive s e ≡ n → 0 < n → n ≤ 8 → answered n s ≡ eventAnswer s e
   refused-is n z l m = sym (returned-refused n s (λ q. omega arith)) ∙ ap returned (sym (answer-refused executive s e n z l))
 
-  -- refused before time passes, with k
-  pub early-is : (k : ℕ) → k ≡ earlyStatus (s .header .n) (s .now) e → (k ≡ 0 → ⊥) → answered k s ≡ eventAnswer s e
+  abbrev early : ℕ
+  early = earlyStatus (s .header .n) (s .now) e
+
+  status-early : (early ≡ 0 → ⊥) → status executive s e ≡ early
   unfolding status timeStatus
-  early-is k z d =
-      refused-is k
-      (first-early (cond (not (soundState s)) 9 0) (fieldStatus s e) (cond (ltb lastTime (e .time)) 3 0) (cond (ltb (e .time) (s .now)) 1 0) (cond (ltb (s .now + longestStep) (e .time)) 2 0)
-      (stateStatus (passed s (e .time)) e) (ap (λ (b : Bool). cond (not b) 9 0) a) (λ q. d (z ∙ q)) ∙ sym z)
-      (omega (arith, d)) (omega (arith, z, early-small (s .header .n) (s .now) e))
+  status-early d =
+      first-early (cond (not (soundState s)) 9 0) (fieldStatus s e) (cond (ltb lastTime (e .time)) 3 0) (cond (ltb (e .time) (s .now)) 1 0) (cond (ltb (s .now + longestStep) (e .time)) 2 0)
+      (stateStatus (passed s (e .time)) e) (ap (λ (b : Bool). cond (not b) 9 0) a) d
 
-  module _ (k : ℕ) (z : k ≡ earlyStatus (s .header .n) (s .now) e) (y : k ≡ 0) where
+  module _ (z : early ≡ 0) where
     times : (s .now ≤ e .time) × (e .time ≤ 1000000000000000)
-    times = time-zero (s .now) (e .time) (early-zero (s .header .n) (s .now) e (sym z ∙ y) .1)
+    times = time-zero (s .now) (e .time) (early-zero (s .header .n) (s .now) e z .1)
 
-    pub advance-fits : (soundState s ≡ true) × (s .now ≤ e .time) × (e .time ≤ 1000000000000000)
-    advance-fits = (a, times .0, times .1)
+    fields : fieldStatus s e ≡ 0
+    fields = early-zero (s .header .n) (s .now) e z .0
 
-    pub place-fits : e .thread < 32
-    place-fits = thread-small (s .header .n) e (omega (tests, state-out s a .sizes)) (early-zero (s .header .n) (s .now) e (sym z ∙ y) .0)
-
-    status-late : status executive s e ≡ stateStatus (passed s (e .time)) e
+    status-late : status executive s e ≡ stateStatus s e
     unfolding status timeStatus
     status-late =
-        let q = early-zero (s .header .n) (s .now) e (sym z ∙ y) in
         first-late (cond (not (soundState s)) 9 0) (fieldStatus s e) (cond (ltb lastTime (e .time)) 3 0) (cond (ltb (e .time) (s .now)) 1 0) (cond (ltb (s .now + longestStep) (e .time)) 2 0)
-        (stateStatus (passed s (e .time)) e) (ap (λ (b : Bool). cond (not b) 9 0) a) (q .0) (q .1)
+        (stateStatus (passed s (e .time)) e) (ap (λ (b : Bool). cond (not b) 9 0) a) fields (early-zero (s .header .n) (s .now) e z .1)
+        ∙ status-kept s e a (times .0) (times .1)
 
-    -- the state at the event's time, and what it allows
-    module _ (u : State) (f : u ≡ passed s (e .time)) (p i : ℕ) (g : i ≡ e .thread) (h : p ≡ highestOf (u .word)) (l : ℕ) (m : l ≡ stateStatusOf (e .kind) (eqb p 0) (threadAt u i .blocked)) where
-      state-is : l ≡ stateStatus u e
-      state-is =
-          m ∙ ap (λ (x : ℕ). stateStatusOf (e .kind) (eqb x 0) (threadAt u i .blocked)) h
-          ∙ ap (λ (j : ℕ). stateStatusOf (e .kind) (eqb (highestOf (u .word)) 0) (threadAt u j .blocked)) g
+  -- the status that is found before time passes; i is the place of the thread that the event names
+  module _ (i : ℕ) (f : e .thread < 32 → i ≡ e .thread) (k : ℕ) (is : k ≡ soundStatus (s .header .n) (s .now) (s .word) (threadAt s i .blocked) e) where
+    abbrev late : ℕ
+    late = stateStatusOf (e .kind) (idles s) (threadAt s i .blocked)
 
-      late : status executive s e ≡ l
-      late = status-late ∙ ap (λ (x : State). stateStatus x e) (sym f) ∙ sym state-is
+    named : early ≡ 0 → stateStatus s e ≡ late
+    named z =
+        let m = thread-small (s .header .n) e (omega (tests, state-out s a .sizes)) (fields z) in
+        ap (λ (j : ℕ). stateStatusOf (e .kind) (idles s) (threadAt s j .blocked)) (sym (f m))
 
-      -- refused at its time, with l
-      pub late-is : (l ≡ 0 → ⊥) → answered l s ≡ eventAnswer s e
-      late-is d = refused-is l late (omega (arith, d)) (omega (arith, m, state-small (e .kind) (eqb p 0) (threadAt u i .blocked)))
+    judged : status executive s e ≡ k
+    judged = go early refl
+      where
+        go : (x : ℕ) → early ≡ x → status executive s e ≡ k
+        go zero z = status-late z ∙ named z ∙ second-is early late z ∙ sym is
+        go (suc x) z = let d : early ≡ 0 → ⊥ = λ y. omega arith in status-early d ∙ first-is early late d ∙ sym is
 
-      module _ (n : l ≡ 0) where
-        pub effect-fits : (soundState u ≡ true) × (fieldStatus u e ≡ 0) × (stateStatus u e ≡ 0)
-        effect-fits = (
-          subst⁻¹ (λ (x : State). soundState x ≡ true) f (sound-advance clock passing s (e .time) a (times .0) (times .1)),
-          ap (λ (x : State). fieldStatus x e) f ∙ field-passed s e ∙ early-zero (s .header .n) (s .now) e (sym z ∙ y) .0,
-          sym state-is ∙ n,
-        )
+    -- refused
+    refusal : (k ≡ 0 → ⊥) → answered k s ≡ eventAnswer s e
+    refusal d =
+        refused-is k judged (omega (arith, d))
+        (omega (arith, is, two-small early late 8 (omega (arith, early-small (s .header .n) (s .now) e)) (state-small (e .kind) (idles s) (threadAt s i .blocked))))
 
-        pub done-sound : (r : State) → r ≡ effect u e → soundState r ≡ true
-        done-sound r q =
-            subst⁻¹ (λ (x : State). soundState x ≡ true) q
-            (state-in (effect u e) (effect-sound u (state-out u (effect-fits .0)) e (effect-fits .1) (effect-fits .2)))
+    -- accepted
+    module _ (y : k ≡ 0) where
+      nothing : (early ≡ 0) × (late ≡ 0)
+      nothing = let b = firstOf-zero early _ (sym is ∙ y) in (b .0, firstOf-zero late _ (b .1) .0)
 
-        -- accepted
-        pub done-is : (r : State) → r ≡ effect u e → answered 0 r ≡ eventAnswer s e
-        done-is r q =
-            ap (answered 0) (q ∙ ap (λ (x : State). effect x e) f)
-            ∙ ap returned (sym (answer-accepted executive s e (late ∙ n)))
+      begins : Open s e s
+      begins =
+          let n = nothing in
+          record {
+            sound = a;
+            by = times (n .0) .0;
+            top = times (n .0) .1;
+            fields = fields (n .0);
+            allows = named (n .0) ∙ n .1;
+            same = ap returned (sym (answer-accepted executive s e (judged ∙ y)));
+          }
+
+-- ---- an accepted event on its way
+
+-- what falls with each turn: whether the event is still to come, then the ticks up to it
+pub turn-falls : (done : Bool) (t n m : ℕ) → done ≡ false → n < t → m ≡ t → cond done 0 (suc (t - m)) < cond done 0 (suc (t - n))
+turn-falls true t n m e l f = false-true (sym e)
+turn-falls false t n m e l f = omega arith
+
+pub turn-ends : (done : Bool) (n : ℕ) → done ≡ false → 0 < cond done 0 (suc n)
+turn-ends true n e = false-true (sym e)
+turn-ends false n e = omega arith
+
+module _ (s₀ : State) (e : Event) (s : State) (o : Open s₀ e s) where
+  -- a moment that is due is after now
+  pub still-due : dueBy (next s) (e .time) ≡ true → s .now < e .time
+  still-due d = let y = due-true (next s) (e .time) d in omega (arith, y .1, moments.later s (state-out s (o .sound)) (y .0))
+
+  -- the state at the event's time
+  module _ (u : State) (f : u ≡ passed s (e .time)) where
+    later : (soundState u ≡ true) × (fieldStatus u e ≡ 0) × (stateStatus u e ≡ 0)
+    later = (
+      subst⁻¹ (λ (x : State). soundState x ≡ true) f (sound-advance clock passing s (e .time) (o .sound) (o .by) (o .top)),
+      ap (λ (x : State). fieldStatus x e) f ∙ field-passed s e ∙ o .fields,
+      ap (λ (x : State). stateStatus x e) f ∙ status-kept s e (o .sound) (o .by) (o .top) ∙ o .allows,
+    )
+
+    pub at-time : u .now ≡ e .time
+    at-time = ap (λ (x : State). x .now) f ∙ now-advance clock passing s (e .time) (o .sound) (o .by) (o .top)
+
+    pub arrives : Open s₀ e u
+    arrives =
+        let l = later in
+        record {
+          sound = l .0;
+          by = omega (arith, at-time);
+          top = o .top;
+          fields = l .1;
+          allows = l .2;
+          same =
+              ap (λ (x : State). answered 0 (effect x e))
+              (ap (λ (x : State). passed x (e .time)) f ∙ advance-advance clock passing s (e .time) (e .time) (o .sound) (o .by) (omega arith) (o .top))
+              ∙ o .same;
+        }
+
+    -- what the event does there
+    module _ (r : State) (g : r ≡ effect u e) where
+      done-sound : soundState r ≡ true
+      done-sound =
+          let l = later in
+          subst⁻¹ (λ (x : State). soundState x ≡ true) g (state-in (effect u e) (effect-sound u (state-out u (l .0)) e (l .1) (l .2)))
+
+      done-is : answered 0 r ≡ eventAnswer s₀ e
+      done-is = ap (answered 0) (g ∙ ap (λ (x : State). effect x e) f) ∙ o .same
+
+-- ---- the turns of an event's loop
+
+-- the first
+module _ (s : State) (e : Event) (a : soundState s ≡ true) (i : ℕ) (f : e .thread < 32 → i ≡ e .thread) (k : ℕ)
+    (is : k ≡ soundStatus (s .header .n) (s .now) (s .word) (threadAt s i .blocked) e) where
+  pub starts : Stage s e k s (not (eqb k 0))
+  starts =
+      record {
+        sound = a;
+        ended = λ q. refusal s e a i f k is (eqb-false k 0 (not-true (eqb k 0) q));
+        going = λ q. let y = eqb-true k 0 (not-false (eqb k 0) q) in (y, begins s e a i f k is y);
+      }
+
+module _ (s₀ : State) (e : Event) (k : ℕ) (s : State) (z : k ≡ 0) (o : Open s₀ e s) (u : State) (f : u ≡ passed s (e .time)) where
+  -- time has passed
+  pub carries : (done : Bool) → done ≡ false → Stage s₀ e k u done
+  carries done n =
+      record {
+        sound = arrives s₀ e s o u f .sound;
+        ended = λ q. false-true (sym n ∙ q);
+        going = λ q. (z, arrives s₀ e s o u f);
+      }
+
+  -- the event has done what it does
+  pub finishes : (r : State) → r ≡ effect u e → Stage s₀ e k r true
+  finishes r g =
+      record {
+        sound = done-sound s₀ e s o u f r g;
+        ended = λ q. ap (λ (n : ℕ). answered n r) z ∙ done-is s₀ e s o u f r g;
+        going = λ q. false-true (sym q);
+      }

@@ -9,7 +9,7 @@ use Rattle.records.specs.Ranges.{lastTime, longestStep}
 use Rattle.passing.specs.Sequence.{firstOf, answer}
 use Rattle.passing.specs.Sequence as sequence
 use Rattle.state.specs.declared.State.{State}
-use Rattle.moments.specs.Running.{running, next}
+use Rattle.ticks.specs.Running.{running, next}
 use Rattle.events.specs.Answers.{fieldStatusOf, executive}
 use Rattle.events.specs.Opening.{opening}
 use Rattle.executive.specs.declared.Answer.{Answer}

@@ -3,6 +3,7 @@ ghost use mathlib.Core.Path.{_≡_};
 ghost use mathlib.Core.Bool.{true};
 ghost use Rattle.state.specs.Sound.{soundState};
 ghost use Rattle.executive.specs.Answer.{answered, unread, timeStatus, earlyStatus};
+ghost use Rattle.executive.specs.Steps.{soundStatus};
 use super::Answer;
 use super::parts;
 use records::Event;
@@ -14,12 +15,12 @@ pub(super) fn answer_of(status: u8, s: State) -> Answer
     ensures { λ r. ⌜ r ≡ answered status s ⌝ }
 {
     let p = ready::highest(s.word);
-    let h = moments::head_at(&s.lists, p);
+    let h = ticks::head_at(&s.lists, p);
     let i = parts::wide(h);
     let t = s.threads[i];
     let n = s.header.n as usize;
-    let runs = moments::running(s.word, &s.lists);
-    let next = moments::next_moment(s.now, p, t, &s.counts, &s.dues, n);
+    let runs = ticks::running(s.word, &s.lists);
+    let next = ticks::next_moment(s.now, p, t, &s.counts, &s.dues, n);
     Answer {
         status: status,
         running: runs,
@@ -65,4 +66,17 @@ pub(super) fn early_status(n: u32, now: u64, e: Event) -> u8
         return fields;
     }
     time_status(now, e.time)
+}
+
+// The status of an event for a sound state. Time changes neither whether a thread runs nor which are blocked, so all of it
+// is judged before time passes.
+pub(super) fn status_of(n: u32, now: u64, word: u32, blocked: bool, e: Event) -> u8
+    ensures { λ r. ⌜ r ≡ soundStatus n now word blocked e ⌝ }
+{
+    let early = early_status(n, now, e);
+    if early != 0 {
+        return early;
+    }
+    let p = ready::highest(word);
+    parts::state_status(e.kind, p == 0, blocked)
 }

@@ -1,19 +1,16 @@
-// What an accepted event does to a sound state at its time.
+// What an event does to the state at its time.
 ghost use mathlib.Core.Path.{_≡_};
-ghost use mathlib.Core.Bool.{true, false};
-ghost use Prim.Native.Nat.{_<_};
+ghost use mathlib.Core.Bool.{cond};
+ghost use Prim.Native.Nat.{_+_, _<_, _^_};
 ghost use lib.ListN.{length};
-ghost use Rattle.records.specs.Ranges.{inRange};
-ghost use Rattle.state.specs.State.{threadAt};
-ghost use Rattle.state.specs.Sound.{soundState};
-ghost use Rattle.moments.specs.Running.{level, head, idles};
+ghost use lib.Dec.{leb};
+ghost use Rattle.ready.specs.Word.{occupancy};
+ghost use Rattle.ready.specs.Rules.{Joinable, Leavable, Movable};
 ghost use Rattle.moments.specs.Changes.{withAccount};
-ghost use Rattle.events.specs.Effects.{block, yield, wake, set, effect};
-ghost use Rattle.events.specs.Answers.{fieldStatus, stateStatus};
+ghost use Rattle.executive.specs.Steps.{changeOf, shifted};
 use super::parts;
 use account::Account;
 use records::Event;
-use records::Parameters;
 use state::State;
 use state::Thread;
 
@@ -34,103 +31,92 @@ pub(super) fn put(s0: State, i: usize, t: Thread, a: Account) -> State
     s
 }
 
-// The running thread blocks.
-pub(super) fn block_running(s: State) -> State
-    requires { ⌜ (soundState s ≡ true) × (idles s ≡ false) ⌝ }
-    ensures { λ r. ⌜ r ≡ block (level s) (head s) (threadAt s (head s)) s ⌝ }
-{
-    let p = ready::highest(s.word);
-    let h = ready::head(&s.lists, p);
-    let i = parts::wide(h);
-    let t = s.threads[i];
-    let q = state::pending_at(&s.counts, &s.dues, &s.amounts, i);
-    let v = t.server;
-    let a = Account {
-        server: v,
-        pending: q,
-    };
-    let b = parts::after_block(s.now, t, a);
-    let u = parts::with_blocked(true, t);
-    let mut r = put(s, i, u, b);
-    let word = r.word;
-    r.word = ready::remove(&mut r.lists, word, p, h);
-    r
+// What an event does to the thread that it concerns: the thread, its account, and the lists that it leaves and joins, 0 for
+// none.
+pub struct Change {
+    pub thread: Thread,
+    pub account: Account,
+    pub from: u8,
+    pub to: u8,
 }
 
-// The running thread becomes the tail of its list.
-pub(super) fn yield_running(s: State) -> State
-    requires { ⌜ (soundState s ≡ true) × (idles s ≡ false) ⌝ }
-    ensures { λ r. ⌜ r ≡ yield (level s) (head s) (threadAt s (head s)) s ⌝ }
+// The thread that an event concerns: the running one, or the one that it names.
+pub(super) fn concerned(kind: u8, thread: u8, head: u8) -> u8
+    ensures { λ r. ⌜ r ≡ cond (leb kind 2) head thread ⌝ }
 {
-    let p = ready::highest(s.word);
-    let h = ready::head(&s.lists, p);
-    let i = parts::wide(h);
-    let t = s.threads[i];
-    let mut r = s;
-    r.threads[i] = parts::full_quantum(t);
-    let word = r.word;
-    r.word = ready::move_to_tail(&mut r.lists, word, h, p, p);
-    r
-}
-
-// The blocked thread k wakes.
-pub(super) fn wake_thread(s: State, k: u8) -> State
-    requires { ⌜ (soundState s ≡ true) × (k < 32) × (threadAt s k .blocked ≡ true) ⌝ }
-    ensures { λ r. ⌜ r ≡ wake k (threadAt s k) s ⌝ }
-{
-    let i = parts::wide(k);
-    let t = s.threads[i];
-    let q = state::pending_at(&s.counts, &s.dues, &s.amounts, i);
-    let v = t.server;
-    let a = Account {
-        server: v,
-        pending: q,
-    };
-    let b = parts::after_wake(s.now, t, a);
-    let u = parts::with_blocked(false, parts::full_quantum(t));
-    let p = state::assigned_place(u, q.count);
-    let mut r = put(s, i, u, b);
-    let word = r.word;
-    r.word = ready::append(&mut r.lists, word, p, k);
-    r
-}
-
-// Thread k has new parameters.
-pub(super) fn set_thread(s: State, k: u8, p: Parameters) -> State
-    requires { ⌜ (soundState s ≡ true) × (k < s .header .n) × (inRange 8 p ≡ true) ⌝ }
-    ensures { λ r. ⌜ r ≡ set k (threadAt s k) p s ⌝ }
-{
-    let i = parts::wide(k);
-    let t = s.threads[i];
-    let from = state::assigned_place(t, s.counts[i]);
-    let u = parts::renew(p, t);
-    let b = parts::new_account(s.now, p);
-    let mut r = put(s, i, u, b);
-    if t.blocked {
-        return r;
+    if kind <= 2 {
+        return head;
     }
-    let word = r.word;
-    r.word = ready::move_to_tail(&mut r.lists, word, k, from, p.priority);
-    r
+    thread
 }
 
-// What an event does that neither its fields nor the state refuse.
-pub(super) fn effect_of(s: State, e: Event) -> State
-    requires { ⌜ (soundState s ≡ true) × (fieldStatus s e ≡ 0) × (stateStatus s e ≡ 0) ⌝ }
-    ensures { λ r. ⌜ r ≡ effect s e ⌝ }
+// The list of a thread with new parameters.
+fn new_place(blocked: bool, p: u8) -> u8
+    ensures { λ r. ⌜ r ≡ cond blocked 0 p ⌝ }
 {
-    if e.kind == 0 {
-        return s;
+    if blocked {
+        return 0;
     }
+    p
+}
+
+// What an event does at its time to the thread that it concerns.
+pub(super) fn change_of(e: Event, t: Thread, a: Account) -> Change
+    requires { ⌜ (0 < e .kind) × (e .kind ≡ 1 → 1 < t .parameters .policy → (a .server .activation + t .parameters .period < 2 ^ 64) × (0 < a .server .used → a .pending .count < 8)) ⌝ }
+    ensures { λ r. ⌜ r ≡ changeOf e t a ⌝ }
+{
+    let here = state::assigned_place(t, a.pending.count);
     if e.kind == 1 {
-        return block_running(s);
+        return Change {
+            thread: parts::with_blocked(true, t),
+            account: parts::after_block(e.time, t, a),
+            from: here,
+            to: 0,
+        };
     }
     if e.kind == 2 {
-        return yield_running(s);
+        return Change {
+            thread: parts::full_quantum(t),
+            account: a,
+            from: here,
+            to: here,
+        };
     }
     if e.kind == 3 {
-        return wake_thread(s, e.thread);
+        let u = parts::with_blocked(false, parts::full_quantum(t));
+        return Change {
+            thread: u,
+            account: parts::after_wake(e.time, t, a),
+            from: 0,
+            to: state::assigned_place(u, a.pending.count),
+        };
     }
     let p = e.parameters;
-    set_thread(s, e.thread, p)
+    Change {
+        thread: parts::renew(p, t),
+        account: parts::new_account(e.time, p),
+        from: here,
+        to: new_place(t.blocked, p.priority),
+    }
+}
+
+// Thread k leaves list `from` and becomes the tail of list `to`, 0 for none; the answer is the word of the lists as they
+// then are.
+pub(super) fn shift(lists: &mut [u8; 1056], word: u32, k: u8, from: u8, to: u8) -> u32
+    requires { ⌜ (from ≡ 0 → to ≡ 0 → word ≡ occupancy (now lists))
+        × (from ≡ 0 → (to ≡ 0 → ⊥) → Joinable word to (now lists))
+        × ((from ≡ 0 → ⊥) → to ≡ 0 → Leavable word from k (now lists))
+        × ((from ≡ 0 → ⊥) → (to ≡ 0 → ⊥) → Movable word k from to (now lists)) ⌝ }
+    ensures { λ r. ⌜ (now (lists .exit) ≡ shifted k from to (now (lists .entry))) × (r ≡ occupancy (shifted k from to (now (lists .entry)))) ⌝ }
+{
+    if from == 0 {
+        if to == 0 {
+            return word;
+        }
+        return ready::append(lists, word, to, k);
+    }
+    if to == 0 {
+        return ready::remove(lists, word, from, k);
+    }
+    ready::move_to_tail(lists, word, k, from, to)
 }

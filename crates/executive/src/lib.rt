@@ -1,11 +1,15 @@
 // The executive: opening, events and their answers.
 ghost use mathlib.Core.Path.{_≡_};
 ghost use mathlib.Core.Bool.{true};
+ghost use lib.ListN.{length};
 ghost use Rattle.state.specs.Sound.{soundState};
 ghost use Rattle.executive.specs.Answer.{eventAnswer, openAnswer};
+use account::Account;
 use records::Event;
+use records::Header;
 use records::Parameters;
 use state::State;
+use state::Thread;
 
 mod answers; // answers.rt: who runs and when to ask again
 mod effects; // effects.rt: what an accepted event does to the state
@@ -34,33 +38,157 @@ pub fn open(start: u64, n: u32, table: [Parameters; 32]) -> Answer
     answers::answer_of(0, s)
 }
 
+// Whether a state of these parts is sound; where that is known, nothing is tested.
+fn known_sound<'a>(
+    known: bool,
+    header: Header,
+    time: u64,
+    idle: u64,
+    word: u32,
+    threads: [Thread; 32],
+    counts: &'a [u8; 32],
+    dues: &'a [u64; 256],
+    amounts: &'a [u64; 256],
+    lists: &'a [u8; 1056],
+) -> bool
+    requires { ⌜ (known ≡ true → soundState (record {
+      header = header;
+      now = time;
+      idle = idle;
+      word = word;
+      threads = threads;
+      counts = now counts;
+      dues = now dues;
+      amounts = now amounts;
+      lists = now lists;
+    }) ≡ true)
+        × (length (now counts) ≡ 32) × (length (now dues) ≡ 256) × (length (now amounts) ≡ 256) ⌝ }
+    ensures { λ r. ⌜ r ≡ soundState (record {
+      header = header;
+      now = time;
+      idle = idle;
+      word = word;
+      threads = threads;
+      counts = now (counts .entry);
+      dues = now (dues .entry);
+      amounts = now (amounts .entry);
+      lists = now (lists .entry);
+    }) ⌝ }
+{
+    if known {
+        return true;
+    }
+    state::sound_parts(
+        header,
+        time,
+        idle,
+        word,
+        threads,
+        counts,
+        dues,
+        amounts,
+        lists,
+    )
+}
+
+// An event for a state that is changed in place: each call that took the state would copy it. The last turn of the loop
+// gives the answer; the turns before it bring the state to the event's time and do what the event does.
+fn run(mut s: State, e: Event, known: bool) -> Answer
+    requires { ⌜ (known ≡ true → soundState s ≡ true) ⌝ }
+    ensures { λ r. ⌜ r ≡ eventAnswer s e ⌝ }
+{
+    let header = s.header;
+    let threads = s.threads;
+    if !known_sound(
+        known,
+        header,
+        s.now,
+        s.idle,
+        s.word,
+        threads,
+        &s.counts,
+        &s.dues,
+        &s.amounts,
+        &s.lists,
+    ) {
+        return Answer {
+            status: 9,
+            running: 255,
+            next: 0,
+            state: s,
+        };
+    }
+    let x = parts::index(e.thread);
+    let named = s.threads[x];
+    let status = answers::status_of(header.n, s.now, s.word, named.blocked, e);
+    let mut done = status != 0;
+    loop {
+        let n = s.header.n as usize;
+        let p = ready::highest(s.word);
+        let h = ticks::head_at(&s.lists, p);
+        let i = parts::wide(h);
+        let runner = s.threads[i];
+        let next = ticks::next_moment(s.now, p, runner, &s.counts, &s.dues, n);
+        if done {
+            let runs = ticks::running(s.word, &s.lists);
+            return Answer {
+                status: status,
+                running: runs,
+                next: next,
+                state: s,
+            };
+        }
+        // the state is copied only where a moment falls up to the event
+        if ticks::due_by(next, e.time) {
+            s = moments::advance(s, e.time);
+            continue;
+        }
+        done = true;
+        let k = e.time - s.now;
+        let charged = ticks::charged_thread(p, k, runner);
+        s.threads[i] = charged;
+        s.idle = ticks::charged_idle(p, k, s.idle);
+        s.now = e.time;
+        if e.kind == 0 {
+            continue;
+        }
+        let number = effects::concerned(e.kind, e.thread, h);
+        let j = parts::wide(number);
+        let t = s.threads[j];
+        let q = state::pending_at(&s.counts, &s.dues, &s.amounts, j);
+        let v = t.server;
+        let a = Account {
+            server: v,
+            pending: q,
+        };
+        let c = effects::change_of(e, t, a);
+        let u = c.thread;
+        let b = c.account;
+        let served = b.server;
+        let pending = b.pending;
+        let dues = pending.dues;
+        let amounts = pending.amounts;
+        let changed = parts::with_server(u, served);
+        s.threads[j] = changed;
+        s.counts[j] = pending.count;
+        state::write_row(&mut s.dues, j, dues);
+        state::write_row(&mut s.amounts, j, amounts);
+        let word = s.word;
+        s.word = effects::shift(&mut s.lists, word, number, c.from, c.to);
+    }
+}
+
 // An event for a state that is known to be sound.
 pub fn step(s: State, e: Event) -> Answer
     requires { ⌜ soundState s ≡ true ⌝ }
     ensures { λ r. ⌜ r ≡ eventAnswer s e ⌝ }
 {
-    let status = answers::early_status(s.header.n, s.now, e);
-    if status != 0 {
-        return answers::answer_of(status, s);
-    }
-    let later = moments::advance(s, e.time);
-    let i = parts::wide(e.thread);
-    let t = later.threads[i];
-    let p = ready::highest(later.word);
-    let late = parts::state_status(e.kind, p == 0, t.blocked);
-    if late != 0 {
-        return answers::answer_of(late, s);
-    }
-    let done = effects::effect_of(later, e);
-    answers::answer_of(0, done)
+    run(s, e, true)
 }
 
 // An event for any state: one that is not sound is refused with 9, and nothing of it is read.
 pub fn event(s: State, e: Event) -> Answer
     ensures { λ r. ⌜ r ≡ eventAnswer s e ⌝ }
 {
-    if state::sound(s) {
-        return step(s, e);
-    }
-    answers::nothing_runs(9, s)
+    run(s, e, false)
 }

@@ -23,6 +23,16 @@ pub(super) fn wide(x: u8) -> usize
     x as usize
 }
 
+// A thread's number as an index that never strays; 0 where there is no such place.
+pub(super) fn index(x: u8) -> usize
+    ensures { λ r. ⌜ (r < 32) × (x < 32 → r ≡ x) ⌝ }
+{
+    if x < 32 {
+        return x as usize;
+    }
+    0
+}
+
 // A thread that is blocked, or not.
 pub(super) fn with_blocked(b: bool, t: Thread) -> Thread
     ensures { λ r. ⌜ r ≡ withBlocked b t ⌝ }

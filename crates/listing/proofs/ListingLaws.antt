@@ -14,8 +14,8 @@ use Rattle.text.specs.Placed.{placed, Put}
 use Rattle.text.proofs.PlacedLaws.{after}
 use Rattle.executive.specs.declared.Answer.{Answer}
 use Rattle.trace_records.specs.Records.{fieldsOf}
-use Rattle.trace.specs.Read.{headerRight, readStatus}
-use Rattle.trace.proofs.ReadLaws.{right, read-refused}
+use Rattle.trace_reading.specs.Read.{headerRight, readStatus}
+use Rattle.trace_reading.proofs.ReadLaws.{right, read-refused}
 use Rattle.steps.specs.declared.Begun.{Begun}
 use Rattle.steps.specs.Steps.{begunOf, answersTo, closing, answersFrom, endFrom}
 use Rattle.steps.proofs.FileLaws.{steps-answer-all, begun-unread}

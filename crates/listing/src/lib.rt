@@ -13,6 +13,7 @@ use text::put_word;
 pub const LARGEST: usize = 54000;
 
 // 0 and how many bytes were written, or 12 and 0 where the buffer is too short.
+#[repr(C)]
 pub struct Listed {
     pub status: u8,
     pub length: usize,

@@ -19,15 +19,17 @@ use Rattle.passing.proofs.TimeLaws.{due-true, due-false}
 use Rattle.state.specs.declared.Thread.{Thread}
 use Rattle.state.specs.declared.State.{State}
 use Rattle.state.specs.State.{threadAt, rowAt, withRow, pendingAt, accountAt}
-use Rattle.moments.specs.declared.Due.{Due}
-use Rattle.moments.specs.Running.{level, head, ran, charge, limit, next}
+use Rattle.state.proofs.SoundLaws.{row-length}
+use Rattle.ticks.specs.declared.Due.{Due}
+use Rattle.ticks.specs.Running.{level, head, ran, charge, limit, nextDue, next}
 use Rattle.moments.specs.Changes.{withServer, withLeft, sentTo, withOutcome}
 use Rattle.moments.specs.Moments.{quantumEnded, limits, passed}
 use Rattle.moments.proofs.DueLaws.{found, row-first, earlier-left}
+use Rattle.moments.proofs.InsertLaws.{afterLimit, after-limit-is, limit-entries}
 use Rattle.moments.proofs.ChargeLaws.{limit-later}
 use Rattle.moments.proofs.TurnLaws.{firstOf, Going, weight, turn-rest, turn-limit, due-some, not-past, charged-going, due-now, turn-due}
 use Rattle.moments.proofs.SeenLaws.{Seen, seen-head, seen-at, seen-small, seen-limit, seen-next, charge-fits, charge-place}
-use Rattle.moments.proofs.StepLaws.{Sendable, limit-not-upper, limit-runs, limit-thread, quantum-movable, quantum-is, limited-is, limited-requires, limited-sendable, due-sendable, due-is}
+use Rattle.moments.proofs.StepLaws.{Sendable, limit-not-upper, limit-runs, limit-thread, quantum-movable, quantum-is, limited-present, limited-is, limited-requires, limited-sendable, due-sendable, due-is}
 
 -- ticks charged in place: the time, the idle time, and thread i
 abbrev pub withTicks : ℕ → ℕ → ℕ → Thread → State → State
@@ -44,33 +46,54 @@ withTicks i now idle w s =
       lists = s .lists;
     }
 
--- an outcome put in place
-pub outcome-place : (u : State) (j : ℕ) (o : Outcome) (n w : ℕ) (v : Thread) (d a l : List ℕ) → n ≡ j
-    → l ≡ sentTo (o .place) n (threadAt u j .parameters) (u .lists) → w ≡ occupancy (sentTo (o .place) n (threadAt u j .parameters) (u .lists))
-    → v ≡ withServer (o .account .server) (threadAt u j) → d ≡ withRow j (o .account .pending .dues) (u .dues) → a ≡ withRow j (o .account .pending .amounts) (u .amounts)
-    → _≡_ {A = State} (record {
+-- an outcome put in place: what the writes leave
+pub record Put (u : State) (j : ℕ) (o : Outcome) : Type 0 where
+  pub number : ℕ
+  pub word : ℕ
+  pub thread : Thread
+  pub dues : List ℕ
+  pub amounts : List ℕ
+  pub lists : List ℕ
+  pub number-is : number ≡ j
+  pub word-is : word ≡ occupancy (sentTo (o .place) number (threadAt u j .parameters) (u .lists))
+  pub thread-is : thread ≡ withServer (o .account .server) (threadAt u j)
+  pub dues-is : dues ≡ withRow j (o .account .pending .dues) (u .dues)
+  pub amounts-is : amounts ≡ withRow j (o .account .pending .amounts) (u .amounts)
+  pub lists-is : lists ≡ sentTo (o .place) number (threadAt u j .parameters) (u .lists)
+
+abbrev pub putState : (u : State) (j : ℕ) (o : Outcome) → Put u j o → State
+putState u j o p =
+    record {
       header = u .header;
       now = u .now;
       idle = u .idle;
-      word = w;
-      threads = set (u .threads) j v;
+      word = p .word;
+      threads = set (u .threads) j (p .thread);
       counts = set (u .counts) j (o .account .pending .count);
-      dues = d;
-      amounts = a;
-      lists = l;
-    }) (withOutcome j o u)
-outcome-place u j o n w v d a l en el ew ev ed ea =
+      dues = p .dues;
+      amounts = p .amounts;
+      lists = p .lists;
+    }
+
+put-is : (u : State) (j : ℕ) (o : Outcome) (p : Put u j o) → putState u j o p ≡ withOutcome j o u
+put-is u j o p =
     λ y. record {
       header = u .header;
       now = u .now;
       idle = u .idle;
-      word = (ew ∙ ap (λ (k : ℕ). occupancy (sentTo (o .place) k (threadAt u j .parameters) (u .lists))) en) y;
-      threads = set (u .threads) j (ev y);
+      word = (p .word-is ∙ ap (λ (k : ℕ). occupancy (sentTo (o .place) k (threadAt u j .parameters) (u .lists))) (p .number-is)) y;
+      threads = set (u .threads) j (p .thread-is y);
       counts = set (u .counts) j (o .account .pending .count);
-      dues = ed y;
-      amounts = ea y;
-      lists = (el ∙ ap (λ (k : ℕ). sentTo (o .place) k (threadAt u j .parameters) (u .lists)) en) y;
+      dues = p .dues-is y;
+      amounts = p .amounts-is y;
+      lists = (p .lists-is ∙ ap (λ (k : ℕ). sentTo (o .place) k (threadAt u j .parameters) (u .lists)) (p .number-is)) y;
     }
+
+-- what holds between turns: time goes on as it did before, and x is the next due
+pub record Between (s₀ : State) (t n : ℕ) (s : State) (x : Due) : Type 0 where
+  pub going : Going s₀ t s
+  pub size : s .header .n ≡ n
+  pub first : x ≡ firstOf s
 
 -- a turn: where time started and where it goes to, the state, and what is read of it
 pub record Turn : Type 0 where
@@ -109,6 +132,13 @@ pub record Acted (r : Turn) (u : State) (j : ℕ) (o : Outcome) : Type 0 where
   pub sendable : Sendable (u .word) j (threadAt u j .parameters) (u .lists) (o .place)
   pub going : Going (r .origin) (r .to) (withOutcome j o u)
   pub falls : weight (r .to) (withOutcome j o u) < weight (r .to) (r .state)
+
+-- and so the writes of its outcome
+pub put-going : (r : Turn) (u : State) (j : ℕ) (o : Outcome) (p : Put u j o) → Acted r u j o → Going (r .origin) (r .to) (putState u j o p)
+put-going r u j o p a = subst⁻¹ (Going (r .origin) (r .to)) (put-is u j o p) (a .going)
+
+pub put-falls : (r : Turn) (u : State) (j : ℕ) (o : Outcome) (p : Put u j o) → Acted r u j o → weight (r .to) (putState u j o p) < weight (r .to) (r .state)
+put-falls r u j o p a = subst⁻¹ (λ (y : State). weight (r .to) y < weight (r .to) (r .state)) (put-is u j o p) (a .falls)
 
 module _ (r : Turn) where
   abbrev s₀ : State
@@ -150,7 +180,7 @@ module _ (r : Turn) where
   is-limit : l ≡ limit s
   is-limit = seen-limit (λ i. s .now - 1) s (g .mid) x p h i l m v
 
-  is-next : m ≡ next s
+  pub is-next : m ≡ next s
   is-next = seen-next (λ i. s .now - 1) s (g .mid) x p h i l m v
 
   at-small : i < 32
@@ -408,12 +438,36 @@ module _ (r : Turn) where
                   (le-leb (getD (rowAt (firstOf s .thread) (s .dues)) 0 0) (s .now + (next s - s .now)) (omega (arith, row-first (firstOf s .thread) (s .dues), f, due-now s₀ s t g (some b) (by b) top (unlimited q))))
 
       -- and on the state in place
-      pub acts : (a : Pending) (o : Outcome) → a ≡ pendingAt u j
-          → o ≡ cond (eqb m l) (limitReached m false (threadAt u j .parameters) (record { server = threadAt u j .server; pending = a }))
+      abbrev pub ruled : Pending → Outcome
+      ruled a =
+          cond (eqb m l) (limitReached m false (threadAt u j .parameters) (record { server = threadAt u j .server; pending = a }))
           (returning m (threadAt u j .blocked) (threadAt u j .parameters) (record { server = threadAt u j .server; pending = a }))
-          → Acted r u j o
+
+      pub acts : (a : Pending) (o : Outcome) → a ≡ pendingAt u j → o ≡ ruled a → Acted r u j o
       acts a o e f =
-          subst⁻¹ (Acted r u j)
-          (f ∙ ap (λ (y : Pending). cond (eqb m l) (limitReached m false (threadAt u j .parameters) (record { server = threadAt u j .server; pending = y }))
-          (returning m (threadAt u j .blocked) (threadAt u j .parameters) (record { server = threadAt u j .server; pending = y }))) e)
+          subst⁻¹ (Acted r u j) (f ∙ ap ruled e)
           (subst⁻¹ (λ (y : State). Acted r y j (rule y j)) charged-is on-charged)
+
+      -- ---- the next due after a limit
+
+      abbrev limited-at : Pending → Outcome
+      limited-at a = limitReached m false (threadAt u j .parameters) (record { server = threadAt u j .server; pending = a })
+
+      abbrev Known : Due → Pending → Outcome → Type 0
+      Known y a o =
+          y ≡ afterLimit x j (a .count) (o .account .pending)
+          → y ≡ nextDue (set (s .counts) j (o .account .pending .count)) (withRow j (o .account .pending .dues) (s .dues)) (s .header .n)
+
+      limited-known : eqb m l ≡ true → (y : Due) → Known y (pendingAt u j) (limited-at (pendingAt u j))
+      limited-known q y f =
+          let w = limit-entries m (threadAt u j .parameters) (accountAt u j) (row-length j (s .dues) number-small (omega (tests, g .mid .sizes))) in
+          after-limit-is (s .counts) (s .dues) (s .header .n) j (omega (tests, g .mid .sizes)) number-small (omega (tests, g .mid .sizes)) (omega (tests, g .mid .sizes))
+          (limited-at (pendingAt u j) .account .pending) (w .0) (λ c. omega (arith, j-head q, here)) (λ c. let z = w .1 c in (z .0, z .1 ∙ row-first j (s .dues))) x y (v .first) f
+        where
+          here : head s < s .header .n
+          here = limited-present (λ i. s .now - 1) s (g .mid) (some b) (limited q) (later b) (not-rr q)
+
+      pub limit-due : (a : Pending) (o : Outcome) → a ≡ pendingAt u j → o ≡ ruled a → eqb m l ≡ true → (p : Put u j o) (y : Due) → y ≡ afterLimit x j (a .count) (o .account .pending) → y ≡ firstOf (putState u j o p)
+      limit-due a o e f q p y w =
+          subst⁻¹ (Known y a) (f ∙ cond-true (eqb m l) _ _ q) (subst⁻¹ (λ (z : Pending). Known y z (limited-at z)) e (limited-known q y)) w
+          ∙ ap (λ (d : List ℕ). nextDue (set (s .counts) j (o .account .pending .count)) d (s .header .n)) (sym (p .dues-is))

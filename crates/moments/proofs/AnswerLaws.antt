@@ -11,7 +11,7 @@ use Rattle.ready.specs.Rules.{Held}
 use Rattle.state.specs.declared.State.{State}
 use Rattle.state.specs.State.{threadAt}
 use Rattle.state.proofs.SoundLaws.{Sound}
-use Rattle.moments.specs.Running.{level, running, earlier, limitOf, nextDue, next}
+use Rattle.ticks.specs.Running.{level, running, earlier, limitOf, nextDue, next}
 use Rattle.moments.proofs.TurnLaws.{firstOf}
 use Rattle.moments.proofs.SeenLaws.{seen-held, top-small, thread-fits, seen-next}
 

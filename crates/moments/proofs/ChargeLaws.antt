@@ -29,8 +29,9 @@ use Rattle.state.specs.State.{noThread, threadAt, rowAt, pendingAt, accountAt, 
 use Rattle.state.specs.Sound.{totals}
 use Rattle.state.proofs.SoundLaws.{ThreadSound, SoundFrom, Sound, sizeTests, SporadicTests}
 use Rattle.state.proofs.SoundLaws.ThreadSound.{absent, fifo, rr, sporadic}
-use Rattle.moments.specs.declared.Due.{Due}
-use Rattle.moments.specs.Running.{level, head, idles, ran, charge, earlier, limitOf, limit, nextDue, next}
+use Rattle.ticks.specs.declared.Due.{Due}
+use Rattle.ticks.specs.Running.{level, head, idles, ran, charge, earlier, limitOf, limit, nextDue, next}
+use Rattle.ticks.proofs.RunLaws.{by-zero, by-one, by-two}
 use Rattle.moments.proofs.ChangeLaws.{totals-set}
 use Rattle.moments.proofs.DueLaws.{Found, found, row-first, earlier-left, earlier-right, earlier-above}
 
@@ -121,20 +122,6 @@ charge-add lo i j s h =
         )
 
 -- ---- the limit and the dues of a sound state are after now
-
-pub by-zero : {A : Type 0} (c : ℕ) (x y z : A) → c ≡ 0 → byPolicy c x y z ≡ x
-by-zero zero x y z e = refl
-by-zero (suc c) x y z e = absurd (omega arith)
-
-pub by-one : {A : Type 0} (c : ℕ) (x y z : A) → c ≡ 1 → byPolicy c x y z ≡ y
-by-one zero x y z e = absurd (omega arith)
-by-one (suc zero) x y z e = refl
-by-one (suc (suc c)) x y z e = absurd (omega arith)
-
-pub by-two : {A : Type 0} (c : ℕ) (x y z : A) → c ≡ 2 → byPolicy c x y z ≡ z
-by-two zero x y z e = absurd (omega arith)
-by-two (suc zero) x y z e = absurd (omega arith)
-by-two (suc (suc c)) x y z e = refl
 
 -- a sporadic thread that stands in the list of its priority has capacity and room
 pub upper-at : (p : ℕ) (t : Thread) (q : Pending) → t .parameters .policy ≡ 2 → t .parameters .low < t .parameters .priority → assigned t (q .count) ≡ p

@@ -8,18 +8,10 @@ use lib.Seq.{getD-take, getD-drop}
 use lib.Dec.{ltb, eqb}
 use native.Mathlib.Omega.{arith}
 use native.Mathlib.Decide.{ℕ-discrete}
-use native.Mathlib.Numerals.{add-one}
 use borrow.Author.Tests.{eq-eqb, ne-eqb, eqb-true, eqb-false, lt-ltb, le-ltb, ltb-true, ltb-false}
 use Rattle.state.specs.State.{rowAt}
-use Rattle.moments.specs.declared.Due.{Due}
-use Rattle.moments.specs.Running.{earlier, sooner, nextDue}
-
--- one more thread
-pub next-due-step : (counts dues : List ℕ) (i : ℕ) (best r : Due) → best ≡ nextDue counts dues i
-    → r ≡ cond (eqb (getD counts i 0) 0) best (sooner i (getD dues (i * 8) 0) best) → r ≡ nextDue counts dues (i + 1)
-unfolding nextDue
-next-due-step counts dues i best r e f =
-    rw add-one (f ∙ ap (λ (x : Due). cond (eqb (getD counts i 0) 0) x (sooner i (getD dues (i * 8) 0) x)) e)
+use Rattle.ticks.specs.declared.Due.{Due}
+use Rattle.ticks.specs.Running.{earlier, sooner, nextDue}
 
 -- what was found among the threads below n
 pub record Found (counts dues : List ℕ) (n : ℕ) (x : Due) : Type 0 where

@@ -33,11 +33,11 @@ use Rattle.state.specs.declared.State.{State}
 use Rattle.state.specs.State.{noServer, noThread, threadAt, rowAt, pendingAt, accountAt, assigned, placeOf, place}
 use Rattle.state.proofs.SoundLaws.{noPending, ThreadSound, SoundFrom, Sound, sizeTests, SporadicTests}
 use Rattle.state.proofs.SoundLaws.ThreadSound.{absent, fifo, rr, sporadic}
-use Rattle.moments.specs.Running.{level, head, idles}
+use Rattle.ticks.specs.Running.{level, head, idles}
+use Rattle.ticks.proofs.RunLaws.{by-zero, by-one, by-two}
 use Rattle.moments.specs.Changes.{withThread, withLists, withServer, withAccount, sentTo, withOutcome}
 use Rattle.moments.specs.Moments.{quantumEnded, limitsOf, limits, replenish, replenishBelow, fire}
 use Rattle.moments.proofs.ChangeLaws.{withBound, changed}
-use Rattle.moments.proofs.ChargeLaws.{by-zero, by-one, by-two}
 
 -- other bounds that are the same below 32
 pub bounds-same : (lo lo′ : ℕ → ℕ) (s : State) → SoundFrom lo s → ((i : ℕ) → i < 32 → lo′ i ≡ lo i) → SoundFrom lo′ s
@@ -138,7 +138,7 @@ module _ (lo : ℕ → ℕ) (s : State) (h : SoundFrom lo s) (i : ℕ) (l : i < 
 -- ---- what a moment's work keeps
 
 module _ {A : Type 0} (f : State → A) (fo : (i : ℕ) (o : Outcome) (s : State) → f (withOutcome i o s) ≡ f s)
-    (fq : (p i : ℕ) (t : Thread) (s : State) → f (quantumEnded p i t s) ≡ f s) where
+    (fq : (p i : ℕ) (s : State) → f (quantumEnded p i (threadAt s i) s) ≡ f s) where
   pub keeps-replenish : (i : ℕ) (s : State) → f (replenish i s) ≡ f s
   unfolding replenish
   keeps-replenish i s =
@@ -157,7 +157,7 @@ module _ {A : Type 0} (f : State → A) (fo : (i : ℕ) (o : Outcome) (s : State
       cond-elim (λ (u : State). f u ≡ f s) (idles s) s (limitsOf (level s) (head s) t s) (λ e. refl)
       (λ e. policy-elim (λ (u : State). f u ≡ f s) (t .parameters .policy) _ _ _
       (λ c. refl)
-      (λ c. cond-elim (λ (u : State). f u ≡ f s) (eqb (t .left) 0) (quantumEnded (level s) (head s) t s) s (λ d. fq (level s) (head s) t s) (λ d. refl))
+      (λ c. cond-elim (λ (u : State). f u ≡ f s) (eqb (t .left) 0) (quantumEnded (level s) (head s) t s) s (λ d. fq (level s) (head s) s) (λ d. refl))
       (λ c. cond-elim (λ (u : State). f u ≡ f s) (eqb (level s) (t .parameters .priority) && eqb (t .server .capacity) 0) _ s (λ d. fo (head s) (limitReached (s .now) false (t .parameters) (accountAt s (head s))) s) (λ d. refl)))
 
   pub keeps-fire : (s : State) → f (fire s) ≡ f s
@@ -165,13 +165,13 @@ module _ {A : Type 0} (f : State → A) (fo : (i : ℕ) (o : Outcome) (s : State
   keeps-fire s = keeps-below (s .header .n) (limits s) ∙ keeps-limits s
 
 pub now-below : (n : ℕ) (s : State) → replenishBelow n s .now ≡ s .now
-now-below n s = keeps-below (λ (u : State). u .now) (λ i o u. refl) (λ p i t u. refl) n s
+now-below n s = keeps-below (λ (u : State). u .now) (λ i o u. refl) (λ p i u. refl) n s
 
 pub now-fire : (s : State) → fire s .now ≡ s .now
-now-fire s = keeps-fire (λ (u : State). u .now) (λ i o u. refl) (λ p i t u. refl) s
+now-fire s = keeps-fire (λ (u : State). u .now) (λ i o u. refl) (λ p i u. refl) s
 
 pub header-fire : (s : State) → fire s .header ≡ s .header
-header-fire s = keeps-fire (λ (u : State). u .header) (λ i o u. refl) (λ p i t u. refl) s
+header-fire s = keeps-fire (λ (u : State). u .header) (λ i o u. refl) (λ p i u. refl) s
 
 -- ---- all that is due comes back, by thread number
 
@@ -224,5 +224,5 @@ settle-sound lo s h f =
     let u = replenishBelow n s in
     settled lo u
     (subst⁻¹ (λ (x : ℕ). SoundFrom (turns x (u .header .n) lo) u) (now-below n s)
-    (subst⁻¹ (λ (x : Header). SoundFrom (turns (s .now) (x .n) lo) u) (keeps-below (λ (v : State). v .header) (λ i o v. refl) (λ p i t v. refl) n s)
+    (subst⁻¹ (λ (x : Header). SoundFrom (turns (s .now) (x .n) lo) u) (keeps-below (λ (v : State). v .header) (λ i o v. refl) (λ p i v. refl) n s)
     (below-sound lo n s (omega (tests, h .sizes)) h f)))

@@ -1,12 +1,11 @@
 -- Laws of the passing of time over the state.
 pub mod ChangeLaws
 pub mod DueLaws
+pub mod InsertLaws
 pub mod ChargeLaws
 pub mod LimitLaws
 pub mod FireLaws
 pub mod MomentLaws
-pub mod EarlierLaws
-pub mod RunLaws
 pub mod TurnLaws
 pub mod SeenLaws
 pub mod StepLaws

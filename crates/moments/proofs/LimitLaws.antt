@@ -32,11 +32,12 @@ use Rattle.state.specs.State.{noServer, noThread, threadAt, rowAt, pendingAt, a
 use Rattle.state.specs.Sound.{totals}
 use Rattle.state.proofs.SoundLaws.{noPending, ThreadSound, SoundFrom, Sound, sizeTests, RrTests, SporadicTests, row-length}
 use Rattle.state.proofs.SoundLaws.ThreadSound.{absent, fifo, rr, sporadic}
-use Rattle.moments.specs.Running.{level, head, idles, ran, charge, limitOf, limit, next}
+use Rattle.ticks.specs.Running.{level, head, idles, ran, charge, limitOf, limit, next}
+use Rattle.ticks.proofs.RunLaws.{by-zero, by-one, by-two}
 use Rattle.moments.specs.Changes.{withThread, withLists, withServer, withLeft, withAccount, sentTo, withOutcome}
 use Rattle.moments.specs.Moments.{quantumEnded, limitsOf, limits}
 use Rattle.moments.proofs.ChangeLaws.{withBound, totals-set, changed-at, thread-account}
-use Rattle.moments.proofs.ChargeLaws.{Runs, runs, Within, by-zero, by-one, by-two, upper-at, ran-upper, ran-low, first-bound, wait-thread, lasts}
+use Rattle.moments.proofs.ChargeLaws.{Runs, runs, Within, upper-at, ran-upper, ran-low, first-bound, wait-thread, lasts}
 
 -- ---- nothing happens where nothing is used up
 

@@ -20,11 +20,12 @@ use Rattle.state.specs.State.{noThread, threadAt, rowAt, pendingAt}
 use Rattle.state.specs.Sound.{soundState}
 use Rattle.state.proofs.SoundLaws.{ThreadSound, SoundFrom, Sound, state-in, state-out}
 use Rattle.state.proofs.SoundLaws.ThreadSound.{absent, fifo, rr, sporadic}
-use Rattle.moments.specs.Running.{level, head, idles, charge, earlier, limitOf, limit, nextDue, next}
+use Rattle.ticks.specs.Running.{level, head, idles, charge, earlier, limitOf, limit, nextDue, next}
+use Rattle.ticks.proofs.RunLaws.{by-zero, by-one, by-two}
 use Rattle.moments.specs.Moments.{limits, replenishBelow, fire, clock}
 use Rattle.moments.proofs.ChangeLaws.{withBound}
 use Rattle.moments.proofs.DueLaws.{earlier-left}
-use Rattle.moments.proofs.ChargeLaws.{by-zero, by-one, by-two, runs, Within, runner-lasts, charge-add, next-charge, later, dues-after, charged-sound}
+use Rattle.moments.proofs.ChargeLaws.{runs, Within, runner-lasts, charge-add, next-charge, later, dues-after, charged-sound}
 use Rattle.moments.proofs.LimitLaws.{ranState, charge-runs, limits-none, quantum-sound, limit-sound}
 use Rattle.moments.proofs.FireLaws.{bounds-same, keeps-limits, now-fire, settle-sound}
 
@@ -58,8 +59,8 @@ before s i = next s - 1
 fired : (s u : State) → SoundFrom (before s) (limits u) → u .now ≡ next s → Sound (fire u)
 unfolding before fire
 fired s u h e =
-    let n = keeps-limits (λ (v : State). v .now) (λ i o v. refl) (λ p i t v. refl) u in
-    subst (λ (x : Header). Sound (replenishBelow (x .n) (limits u))) (keeps-limits (λ (v : State). v .header) (λ i o v. refl) (λ p i t v. refl) u)
+    let n = keeps-limits (λ (v : State). v .now) (λ i o v. refl) (λ p i v. refl) u in
+    subst (λ (x : Header). Sound (replenishBelow (x .n) (limits u))) (keeps-limits (λ (v : State). v .header) (λ i o v. refl) (λ p i v. refl) u)
     (settle-sound (λ i. next s - 1) (limits u) h (λ i. omega (arith, n)))
 
 module _ (s : State) (h : Sound s) (p : 0 < next s) (top : next s ≤ 1000000000000000) where

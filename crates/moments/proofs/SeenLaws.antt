@@ -21,10 +21,10 @@ use Rattle.state.specs.State.{noThread, threadAt, pendingAt, place}
 use Rattle.state.specs.Sound.{totals}
 use Rattle.state.proofs.SoundLaws.{ThreadSound, SoundFrom}
 use Rattle.state.proofs.SoundLaws.ThreadSound.{absent, fifo, rr, sporadic}
-use Rattle.moments.specs.declared.Due.{Due}
-use Rattle.moments.specs.Running.{level, head, idles, ran, charge, earlier, limitOf, limit, next}
-use Rattle.moments.proofs.ChargeLaws.{runs, no-word, by-one, runner-lasts}
-use Rattle.moments.proofs.RunLaws.{by-more, limit-rr, limit-upper}
+use Rattle.ticks.specs.declared.Due.{Due}
+use Rattle.ticks.specs.Running.{level, head, idles, ran, charge, earlier, limitOf, limit, next}
+use Rattle.ticks.proofs.RunLaws.{by-one, by-more, limit-rr, limit-upper}
+use Rattle.moments.proofs.ChargeLaws.{runs, no-word, runner-lasts}
 use Rattle.moments.proofs.TurnLaws.{firstOf}
 
 -- the first due, the highest list p, its head i (0 where p is 0), the limit and the next moment

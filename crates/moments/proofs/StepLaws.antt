@@ -8,7 +8,7 @@ use lib.Seq.{getD-set-same}
 use lib.Dec.{ltb, eqb}
 use native.Mathlib.Omega.{arith}
 use native.Mathlib.Decide.{ℕ-discrete}
-use borrow.Author.Tests.{eq-eqb}
+use borrow.Author.Tests.{eq-eqb, ltb-true}
 use Rattle.records.specs.declared.Parameters.{Parameters}
 use Rattle.records.proofs.TestLaws.{tests, All, cond-elim, cond-true, cond-false}
 use Rattle.account.specs.declared.Server.{Server}
@@ -30,11 +30,11 @@ use Rattle.state.specs.declared.State.{State}
 use Rattle.state.specs.State.{noThread, threadAt, pendingAt, accountAt, assigned, place}
 use Rattle.state.proofs.SoundLaws.{ThreadSound, SoundFrom, SporadicTests}
 use Rattle.state.proofs.SoundLaws.ThreadSound.{absent, fifo, rr, sporadic}
-use Rattle.moments.specs.Running.{level, head, idles, ran, charge, limitOf, limit, next}
+use Rattle.ticks.specs.Running.{level, head, idles, ran, charge, limitOf, limit, next}
+use Rattle.ticks.proofs.RunLaws.{by-zero, by-one, by-two, by-more, limit-rr, limit-upper, limit-lower}
 use Rattle.moments.specs.Changes.{withOutcome}
 use Rattle.moments.specs.Moments.{quantumEnded, limitsOf, limits, replenish}
-use Rattle.moments.proofs.ChargeLaws.{Runs, runs, by-zero, by-one, by-two, upper-at, ran-upper}
-use Rattle.moments.proofs.RunLaws.{by-more, limit-rr, limit-upper, limit-lower}
+use Rattle.moments.proofs.ChargeLaws.{Runs, runs, upper-at, ran-upper}
 
 -- ---- where the account's rules send a thread
 
@@ -157,6 +157,7 @@ module _ (lo : ℕ → ℕ) (s : State) (a : SoundFrom lo s) (p : 0 < next s) (e
 
     -- a sound thread of that policy
     record Sporadic : Type 0 where
+      present : ltb (head s) (s .header .n) ≡ true
       policy : threadAt s (head s) .parameters .policy ≡ 2
       ranges : All (SporadicTests (threadAt s (head s) .parameters))
       account : AccountSound (s .header .start) (s .now) (lo (head s)) (runsUpper (threadAt s (head s) .blocked) (threadAt s (head s) .parameters) (accountAt s (head s)))
@@ -169,7 +170,10 @@ module _ (lo : ℕ → ℕ) (s : State) (a : SoundFrom lo s) (p : 0 < next s) (e
         go (absent n q f) = absurd (not-fifo (ap (λ (x : Thread). x .parameters .policy) q))
         go (fifo n z g l v f) = absurd (not-fifo z)
         go (rr n z g l v f) = absurd (d z)
-        go (sporadic n z g l v) = record { policy = z; ranges = g; account = v }
+        go (sporadic n z g l v) = record { present = n; policy = z; ranges = g; account = v }
+
+    pub limited-present : head s < s .header .n
+    limited-present = ltb-true (head s) (s .header .n) (sporadic-here .present)
 
     server-is : ran (level s) (next s - s .now) (threadAt s (head s)) .server ≡ charged (next s - s .now) (threadAt s (head s) .server)
     server-is =

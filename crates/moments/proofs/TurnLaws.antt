@@ -21,12 +21,13 @@ use Rattle.state.specs.declared.Thread.{Thread}
 use Rattle.state.specs.declared.State.{State}
 use Rattle.state.specs.State.{noThread, threadAt, rowAt, pendingAt}
 use Rattle.state.proofs.SoundLaws.{SoundFrom, Sound, state-in}
-use Rattle.moments.specs.declared.Due.{Due}
-use Rattle.moments.specs.Running.{level, head, idles, ran, charge, limit, nextDue, next}
+use Rattle.ticks.specs.declared.Due.{Due}
+use Rattle.ticks.specs.Running.{level, head, idles, ran, charge, limit, nextDue, next}
+use Rattle.ticks.proofs.EarlierLaws.{earlier-other}
+use Rattle.ticks.proofs.RunLaws.{charged-none}
 use Rattle.moments.specs.Moments.{limits, replenish, replenishBelow, fire, clock, passed}
 use Rattle.moments.proofs.ChangeLaws.{withBound}
 use Rattle.moments.proofs.DueLaws.{Found, found, row-first, earlier-right}
-use Rattle.moments.proofs.EarlierLaws.{earlier-other}
 use Rattle.moments.proofs.ChargeLaws.{due-after, wait-thread, next-due, dues-after, limit-later, charged-sound}
 use Rattle.moments.proofs.LimitLaws.{limits-none}
 use Rattle.moments.proofs.FireLaws.{bounds-same, replenish-sound, keeps-replenish, keeps-limits}
@@ -134,10 +135,10 @@ module _ (s : State) (h : Mid s) (d : firstOf s .thread ≡ 32 → ⊥) (e : fir
   after = replenish-sound lo s lower (firstOf s .thread) first-small (rw (le-ltb (firstOf s .thread) (firstOf s .thread) (omega arith)) (omega arith))
 
   now-kept : replenish (firstOf s .thread) s .now ≡ s .now
-  now-kept = keeps-replenish (λ (u : State). u .now) (λ i o u. refl) (λ p i t u. refl) (firstOf s .thread) s
+  now-kept = keeps-replenish (λ (u : State). u .now) (λ i o u. refl) (λ p i u. refl) (firstOf s .thread) s
 
   header-kept : replenish (firstOf s .thread) s .header ≡ s .header
-  header-kept = keeps-replenish (λ (u : State). u .header) (λ i o u. refl) (λ p i t u. refl) (firstOf s .thread) s
+  header-kept = keeps-replenish (λ (u : State). u .header) (λ i o u. refl) (λ p i u. refl) (firstOf s .thread) s
 
   bound-some : (j : ℕ) → s .now - 1 ≤ withBound lo (firstOf s .thread) (s .now) j
   unfolding lo
@@ -250,16 +251,10 @@ ran-none p t =
     left (suc zero) = omega arith
     left (suc (suc c)) = refl
 
-    none : charged 0 (t .server) ≡ t .server
-    none = λ x. record { capacity = m (t .server .capacity) x; used = n (t .server .used) x; activation = t .server .activation }
-      where
-        m : (a : ℕ) → a - 0 ≡ a
-        m a = omega arith
-
     server : (c : ℕ) (b : Bool) → byPolicy c (t .server) (t .server) (cond b (charged 0 (t .server)) (t .server)) ≡ t .server
     server zero b = refl
     server (suc zero) b = refl
-    server (suc (suc c)) true = none
+    server (suc (suc c)) true = charged-none (t .server)
     server (suc (suc c)) false = refl
 
 charge-none : (s : State) → charge 0 s ≡ s
@@ -331,8 +326,8 @@ module _ (s₀ s : State) (t : ℕ) (g : Going s₀ t s) where
     unfolding before weight
     turn-limit e =
         let q : s .now < next s = omega (arith, limit-later (λ i. s .now - 1) s (g .mid) (omega arith)) in
-        let n = keeps-limits (λ (v : State). v .now) (λ i o v. refl) (λ p i t v. refl) u in
-        let x = keeps-limits (λ (v : State). v .header) (λ i o v. refl) (λ p i t v. refl) u in
+        let n = keeps-limits (λ (v : State). v .now) (λ i o v. refl) (λ p i v. refl) u in
+        let x = keeps-limits (λ (v : State). v .header) (λ i o v. refl) (λ p i v. refl) u in
         let h = settled-sound s (g .mid) (due-later s (λ p. q)) in (
           record {
             mid = bounds-same (before s) (λ i. limits u .now - 1) (limits u) (limits-sound s h p (omega arith)) (λ i m. omega (arith, n));
@@ -391,7 +386,7 @@ module _ (s₀ s : State) (t : ℕ) (g : Going s₀ t s) where
       unfolding weight
       turn-due =
           let c = charged-going in
-          let n = keeps-replenish (λ (v : State). v .now) (λ i o v. refl) (λ p i t v. refl) (firstOf s .thread) u in (
+          let n = keeps-replenish (λ (v : State). v .now) (λ i o v. refl) (λ p i v. refl) (firstOf s .thread) u in (
             record {
               mid = replenished-mid u (c .mid) due-some due-now;
               by = omega (arith, n, c .by);

@@ -9,7 +9,7 @@ use Rattle.passing.specs.Time.{Clock, advance}
 use Rattle.state.specs.declared.Thread.{Thread}
 use Rattle.state.specs.declared.State.{State}
 use Rattle.state.specs.State.{threadAt, pendingAt, accountAt}
-use Rattle.moments.specs.Running.{level, head, idles, charge, next}
+use Rattle.ticks.specs.Running.{level, head, idles, charge, next}
 use Rattle.moments.specs.Changes.{withThread, withLists, withLeft, withOutcome}
 
 -- Passing 7: the quantum has ended: the tail of its list p, with a full quantum

@@ -92,8 +92,10 @@ fn close(lists: &mut [u8; 1056], at: usize, n: usize)
     requires { ⌜ (0 < n) × (at + n ≤ 1056) × (length (now lists) ≡ 1056) ⌝ }
     ensures { λ _. ⌜ now (lists .exit) ≡ closed (now (lists .entry)) at n ⌝ }
 {
+    // a bound that the loop doesn't compute: compiled as one move of the whole run
+    let last = n - 1;
     let mut j: usize = 0;
-    while j + 1 < n {
+    while j < last {
         let x = lists[at + j + 1];
         lists[at + j] = x;
         j = j + 1;
@@ -216,11 +218,11 @@ fn word_of(lists: &[u8; 1056]) -> u32
 
 // Whether lists and word are sound for the places: thread i must stand once in the list of the priority places[i], and in
 // no other; at 0 it must stand in none. Any contents are decided.
-pub fn sound(lists: [u8; 1056], word: u32, places: [u8; 32]) -> bool
-    ensures { λ r. ⌜ r ≡ soundLists (λ i. getD places i 0) word lists ⌝ }
+pub fn sound(lists: &[u8; 1056], word: u32, places: [u8; 32]) -> bool
+    ensures { λ r. ⌜ r ≡ soundLists (λ i. getD places i 0) word (now (lists .entry)) ⌝ }
 {
-    if !sound_rows(&lists, places) {
+    if !sound_rows(lists, places) {
         return false;
     }
-    word == word_of(&lists)
+    word == word_of(lists)
 }

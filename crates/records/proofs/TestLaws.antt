@@ -119,3 +119,8 @@ pub policy-elim : {A : Type 0} (P : A → Type 0) (c : ℕ) (x y z : A) → (c �
 policy-elim P zero x y z f g h = f refl
 policy-elim P (suc zero) x y z f g h = g refl
 policy-elim P (suc (suc c)) x y z f g h = h (omega arith)
+
+-- a flag that is lowered
+pub cond-never : (b : Bool) → cond b false false ≡ false
+cond-never true = refl
+cond-never false = refl

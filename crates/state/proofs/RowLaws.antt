@@ -6,7 +6,12 @@ use lib.ListN.{length, take, drop, getD, set, replicate, length-drop}
 use lib.Seq.{paste, paste-suc, take-all, getD-take, getD-drop, length-take-le}
 use native.Mathlib.Numerals.{add-one}
 use native.Mathlib.Omega.{arith}
+use Rattle.account.specs.declared.Pending.{Pending}
 use Rattle.state.specs.State.{rowAt, withRow}
+
+-- thread i's pending replenishments, in the arrays of all threads
+abbrev pub pendingOf : List ℕ → List ℕ → List ℕ → ℕ → Pending
+pendingOf counts dues amounts i = record { count = getD counts i 0; dues = rowAt i dues; amounts = rowAt i amounts }
 
 -- the first j places are read, and the others are still 0
 abbrev pub readTo : ℕ → List ℕ → ℕ → List ℕ
@@ -20,12 +25,14 @@ module _ (i : ℕ) (xs : List ℕ) (h : i < 32) (n : length xs ≡ 256) where
   pub row-length : length (rowAt i xs) ≡ 8
   row-length = length-take-le 8 (drop (i * 8) xs) (omega (arith, length-drop (i * 8) xs))
 
+  pub row-at : (j : ℕ) → j < 8 → getD (rowAt i xs) j 0 ≡ getD xs (i * 8 + j) 0
+  row-at j l = getD-take 8 (drop (i * 8) xs) j 0 l ∙ getD-drop (i * 8) xs j 0
+
   pub read-step : (row : List ℕ) (j : ℕ) → j < 8 → row ≡ readTo i xs j → set row j (getD xs (i * 8 + j) 0) ≡ readTo i xs (j + 1)
   read-step row j l e =
       let z : j ≡ 0 + j = omega arith in
-      let g : getD xs (i * 8 + j) 0 ≡ getD (rowAt i xs) j 0 = sym (getD-take 8 (drop (i * 8) xs) j 0 l ∙ getD-drop (i * 8) xs j 0) in
       ap (λ (r : List ℕ). set r j (getD xs (i * 8 + j) 0)) e
-      ∙ ap (λ (x : ℕ). set (readTo i xs j) j x) g
+      ∙ ap (λ (x : ℕ). set (readTo i xs j) j x) (sym (row-at j l))
       ∙ ap (λ (k : ℕ). set (readTo i xs j) k (getD (rowAt i xs) j 0)) z
       ∙ paste-suc (replicate 8 0) 0 (rowAt i xs) j 0 (omega arith) (omega (arith, row-length))
       ∙ ap (readTo i xs) (sym (add-one j))

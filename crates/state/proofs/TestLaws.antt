@@ -40,6 +40,10 @@ all-last (b ∷ []) h = all-one b
 all-last (true ∷ c ∷ bs) h = all-last (c ∷ bs) (h .1)
 all-last (false ∷ c ∷ bs) h = false-true (h .0)
 
+-- so a function that answers by the last one decides them all
+pub by-last : (bs : List Bool) {r : Bool} → r ≡ last bs → All (butLast bs) → r ≡ all bs
+by-last bs e h = e ∙ sym (all-last bs h)
+
 -- a test of every number below i, and then of i
 pub below-next : (i : ℕ) (f : ℕ → Bool) → below i f ≡ true → f i ≡ true → below (i + 1) f ≡ true
 unfolding below

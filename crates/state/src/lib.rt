@@ -1,12 +1,9 @@
 // The executive's state, by value, and when it is sound.
 ghost use mathlib.Core.Path.{_≡_};
-ghost use Prim.Native.Nat.{ℕ, _+_, _<_};
-ghost use mathlib.Core.List.{[]};
+ghost use Prim.Native.Nat.{_<_};
 ghost use lib.ListN.{length, getD};
-ghost use lib.Dec.{eqb};
-ghost use Rattle.records.specs.Tests.{below};
-ghost use Rattle.state.specs.State.{noThread, rowAt, withRow, placeOf};
-ghost use Rattle.state.specs.Sound.{threadTest, totals, soundState};
+ghost use Rattle.state.specs.State.{rowAt, withRow, placeOf};
+ghost use Rattle.state.specs.Sound.{soundState};
 use account::Pending;
 use account::Server;
 use records::Header;
@@ -106,74 +103,63 @@ pub fn assigned_place(t: Thread, count: u8) -> u8
     p.low
 }
 
-// The list in which each thread stands.
-fn all_places(threads: [Thread; 32], counts: &[u8; 32]) -> [u8; 32]
-    ensures { λ r. ⌜ ((k : ℕ) → getD r k 0 ≡ placeOf (getD threads k noThread) (getD (now (counts .entry)) k 0)) ⌝ }
-{
-    let mut places = [0u8; 32];
-    let mut i: usize = 0;
-    while i < 32 {
-        let t = threads[i];
-        places[i] = assigned_place(t, counts[i]);
-        i = i + 1;
-    }
-    places
-}
-
-// Whether every thread below N is sound, and every place from N on holds nothing: the definition's test of a state,
-// of which it reads these parts alone.
-fn threads_hold<'a>(
+// Whether a state of these parts is sound, for any contents: the times that the threads have run are taken from what is
+// left of the time, so that no sum wraps. Only the threads are copied: an array of structs can't be lent.
+pub fn sound_parts<'a>(
     header: Header,
     time: u64,
+    idle: u64,
+    word: u32,
     threads: [Thread; 32],
     counts: &'a [u8; 32],
     dues: &'a [u64; 256],
     amounts: &'a [u64; 256],
+    lists: &'a [u8; 1056],
 ) -> bool
-    requires { ⌜ (length (now dues) ≡ 256) × (length (now amounts) ≡ 256) ⌝ }
-    ensures { λ r. ⌜ r ≡ below 32 (threadTest (record {
+    requires { ⌜ (length (now counts) ≡ 32) × (length (now dues) ≡ 256) × (length (now amounts) ≡ 256) ⌝ }
+    ensures { λ r. ⌜ r ≡ soundState (record {
       header = header;
       now = time;
-      idle = 0;
-      word = 0;
+      idle = idle;
+      word = word;
       threads = threads;
       counts = now (counts .entry);
       dues = now (dues .entry);
       amounts = now (amounts .entry);
-      lists = [];
-    })) ⌝ }
+      lists = now (lists .entry);
+    }) ⌝ }
 {
+    if header.n < 1 {
+        return false;
+    }
+    if 32 < header.n {
+        return false;
+    }
+    if time < header.start {
+        return false;
+    }
+    if 1000000000000000 < time {
+        return false;
+    }
     let n = header.n as usize;
+    let mut left = time - header.start;
+    let mut places = [0u8; 32];
     let mut i: usize = 0;
     while i < 32 {
         let t = threads[i];
-        let q = pending_at(counts, dues, amounts, i);
         let present = i < n;
-        i = i + 1;
-        if !tests::thread_holds(present, header.start, time, t, q) {
+        if !tests::thread_holds(present, header.start, time, t, counts, dues, amounts, i) {
             return false;
         }
-    }
-    true
-}
-
-// Whether the start time, all run times and the idle time make `time`. Each is taken from what is left, so that no
-// sum wraps.
-fn totals_hold(threads: [Thread; 32], start: u64, idle: u64, time: u64) -> bool
-    ensures { λ r. ⌜ r ≡ eqb (start + totals threads + idle) time ⌝ }
-{
-    if time < start {
-        return false;
-    }
-    let mut left = time - start;
-    let mut k: usize = 0;
-    while k < 32 {
-        let t = threads[k];
-        k = k + 1;
         if left < t.total {
             return false;
         }
+        places[i] = assigned_place(t, counts[i]);
         left = left - t.total;
+        i = i + 1;
+    }
+    if !ready::sound(lists, word, places) {
+        return false;
     }
     left == idle
 }
@@ -183,26 +169,16 @@ pub fn sound(s: State) -> bool
     ensures { λ r. ⌜ r ≡ soundState s ⌝ }
 {
     let header = s.header;
-    if header.n < 1 {
-        return false;
-    }
-    if 32 < header.n {
-        return false;
-    }
-    if s.now < header.start {
-        return false;
-    }
-    if 1000000000000000 < s.now {
-        return false;
-    }
     let threads = s.threads;
-    if !threads_hold(header, s.now, threads, &s.counts, &s.dues, &s.amounts) {
-        return false;
-    }
-    let lists = s.lists;
-    let places = all_places(threads, &s.counts);
-    if !ready::sound(lists, s.word, places) {
-        return false;
-    }
-    totals_hold(threads, header.start, s.idle, s.now)
+    sound_parts(
+        header,
+        s.now,
+        s.idle,
+        s.word,
+        threads,
+        &s.counts,
+        &s.dues,
+        &s.amounts,
+        &s.lists,
+    )
 }

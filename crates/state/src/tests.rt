@@ -1,31 +1,50 @@
 // What soundness asks of one thread, for any contents.
 ghost use mathlib.Core.Path.{_≡_};
 ghost use mathlib.Core.Bool.{cond};
+ghost use Prim.Native.Nat.{_<_};
+ghost use lib.ListN.{length, getD};
 ghost use Rattle.records.specs.Tests.{all, zeros};
+ghost use Rattle.state.specs.State.{rowAt};
 ghost use Rattle.state.specs.Sound.{noAccountTests, leftTests, accountTest, presentTest, absentTest};
 use super::Thread;
+use super::pending_at;
 use account::Account;
-use account::Pending;
 use account::Server;
 
-// Whether all eight places hold 0.
-fn all_zero(xs: [u64; 8]) -> bool
-    ensures { λ r. ⌜ r ≡ all (zeros xs) ⌝ }
+// Whether thread i's eight places hold 0.
+fn row_zero(xs: &[u64; 256], i: usize) -> bool
+    requires { ⌜ (i < 32) × (length (now xs) ≡ 256) ⌝ }
+    ensures { λ r. ⌜ r ≡ all (zeros (rowAt i (now (xs .entry)))) ⌝ }
 {
-    let mut i: usize = 0;
-    while i < 8 {
-        let x = xs[i];
-        i = i + 1;
+    // to the end in any case: a loop that may return early is compiled number by number
+    let from = i * 8;
+    let mut clean = true;
+    let mut j: usize = 0;
+    while j < 8 {
+        let x = xs[from + j];
+        j = j + 1;
         if x != 0 {
-            return false;
+            clean = false;
+            continue;
         }
     }
-    true
+    clean
 }
 
-// Whether there is no account.
-fn no_account(s: Server, q: Pending) -> bool
-    ensures { λ r. ⌜ r ≡ all (noAccountTests s q) ⌝ }
+// Whether thread i has no account.
+fn no_account<'a>(
+    s: Server,
+    counts: &'a [u8; 32],
+    dues: &'a [u64; 256],
+    amounts: &'a [u64; 256],
+    i: usize,
+) -> bool
+    requires { ⌜ (i < 32) × (length (now dues) ≡ 256) × (length (now amounts) ≡ 256) ⌝ }
+    ensures { λ r. ⌜ r ≡ all (noAccountTests s (record {
+      count = getD (now (counts .entry)) i 0;
+      dues = rowAt i (now (dues .entry));
+      amounts = rowAt i (now (amounts .entry));
+    })) ⌝ }
 {
     if s.capacity != 0 {
         return false;
@@ -36,15 +55,13 @@ fn no_account(s: Server, q: Pending) -> bool
     if s.activation != 0 {
         return false;
     }
-    if q.count != 0 {
+    if counts[i] != 0 {
         return false;
     }
-    let dues = q.dues;
-    if !all_zero(dues) {
+    if !row_zero(dues, i) {
         return false;
     }
-    let amounts = q.amounts;
-    all_zero(amounts)
+    row_zero(amounts, i)
 }
 
 // Whether the quantum left is 1 to quantum for RR, and 0 for any other.
@@ -61,24 +78,50 @@ fn left_holds(t: Thread) -> bool
 }
 
 // Whether a sporadic thread's account is sound, and any other thread has none.
-fn account_holds(start: u64, now: u64, t: Thread, q: Pending) -> bool
-    ensures { λ r. ⌜ r ≡ accountTest start now t q ⌝ }
+fn account_holds<'a>(
+    start: u64,
+    time: u64,
+    t: Thread,
+    counts: &'a [u8; 32],
+    dues: &'a [u64; 256],
+    amounts: &'a [u64; 256],
+    i: usize,
+) -> bool
+    requires { ⌜ (i < 32) × (length (now dues) ≡ 256) × (length (now amounts) ≡ 256) ⌝ }
+    ensures { λ r. ⌜ r ≡ accountTest start time t (record {
+      count = getD (now (counts .entry)) i 0;
+      dues = rowAt i (now (dues .entry));
+      amounts = rowAt i (now (amounts .entry));
+    }) ⌝ }
 {
     let s = t.server;
     if t.parameters.policy < 2 {
-        return no_account(s, q);
+        return no_account(s, counts, dues, amounts, i);
     }
     let p = t.parameters;
     let a = Account {
         server: s,
-        pending: q,
+        pending: pending_at(counts, dues, amounts, i),
     };
-    account::sound(p, a, t.blocked, start, now)
+    account_sound::sound(p, a, t.blocked, start, time)
 }
 
 // Whether a thread below N is sound.
-fn present_sound(start: u64, now: u64, t: Thread, q: Pending) -> bool
-    ensures { λ r. ⌜ r ≡ presentTest start now t q ⌝ }
+fn present_sound<'a>(
+    start: u64,
+    time: u64,
+    t: Thread,
+    counts: &'a [u8; 32],
+    dues: &'a [u64; 256],
+    amounts: &'a [u64; 256],
+    i: usize,
+) -> bool
+    requires { ⌜ (i < 32) × (length (now dues) ≡ 256) × (length (now amounts) ≡ 256) ⌝ }
+    ensures { λ r. ⌜ r ≡ presentTest start time t (record {
+      count = getD (now (counts .entry)) i 0;
+      dues = rowAt i (now (dues .entry));
+      amounts = rowAt i (now (amounts .entry));
+    }) ⌝ }
 {
     let p = t.parameters;
     if !records::in_range(p, 8) {
@@ -90,12 +133,23 @@ fn present_sound(start: u64, now: u64, t: Thread, q: Pending) -> bool
     if !left_holds(t) {
         return false;
     }
-    account_holds(start, now, t, q)
+    account_holds(start, time, t, counts, dues, amounts, i)
 }
 
 // Whether a place from N on holds nothing.
-fn absent_zero(t: Thread, q: Pending) -> bool
-    ensures { λ r. ⌜ r ≡ absentTest t q ⌝ }
+fn absent_zero<'a>(
+    t: Thread,
+    counts: &'a [u8; 32],
+    dues: &'a [u64; 256],
+    amounts: &'a [u64; 256],
+    i: usize,
+) -> bool
+    requires { ⌜ (i < 32) × (length (now dues) ≡ 256) × (length (now amounts) ≡ 256) ⌝ }
+    ensures { λ r. ⌜ r ≡ absentTest t (record {
+      count = getD (now (counts .entry)) i 0;
+      dues = rowAt i (now (dues .entry));
+      amounts = rowAt i (now (amounts .entry));
+    }) ⌝ }
 {
     let p = t.parameters;
     if !records::all_zero(p) {
@@ -111,15 +165,33 @@ fn absent_zero(t: Thread, q: Pending) -> bool
         return false;
     }
     let s = t.server;
-    no_account(s, q)
+    no_account(s, counts, dues, amounts, i)
 }
 
-// The test of a place, with a thread (`present`) or without.
-pub(super) fn thread_holds(present: bool, start: u64, now: u64, t: Thread, q: Pending) -> bool
-    ensures { λ r. ⌜ r ≡ cond present (presentTest start now t q) (absentTest t q) ⌝ }
+// The test of place i, with a thread (`present`) or without.
+pub(super) fn thread_holds<'a>(
+    present: bool,
+    start: u64,
+    time: u64,
+    t: Thread,
+    counts: &'a [u8; 32],
+    dues: &'a [u64; 256],
+    amounts: &'a [u64; 256],
+    i: usize,
+) -> bool
+    requires { ⌜ (i < 32) × (length (now dues) ≡ 256) × (length (now amounts) ≡ 256) ⌝ }
+    ensures { λ r. ⌜ r ≡ cond present (presentTest start time t (record {
+      count = getD (now (counts .entry)) i 0;
+      dues = rowAt i (now (dues .entry));
+      amounts = rowAt i (now (amounts .entry));
+    })) (absentTest t (record {
+      count = getD (now (counts .entry)) i 0;
+      dues = rowAt i (now (dues .entry));
+      amounts = rowAt i (now (amounts .entry));
+    })) ⌝ }
 {
     if present {
-        return present_sound(start, now, t, q);
+        return present_sound(start, time, t, counts, dues, amounts, i);
     }
-    absent_zero(t, q)
+    absent_zero(t, counts, dues, amounts, i)
 }

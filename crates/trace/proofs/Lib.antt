@@ -1,8 +1,6 @@
--- Answers computed on a small file: what the definitions come to.
+-- An answer computed on a small file: what the definitions come to.
 pub mod Computed
 -- Laws that the crates above use.
 pub mod RunLaws
-pub mod ReadLaws
-pub mod ReaderLaws
 pub mod WriteLaws
 pub mod RoundTrips

@@ -105,6 +105,13 @@ pub struct Written {
     pub total: usize,
 }
 
+#[repr(C)]
+#[derive(Clone, Copy, Debug, PartialEq, Eq)]
+pub struct Listed {
+    pub status: u8,
+    pub length: usize,
+}
+
 mod exported {
     use super::*;
     // A slice is a pointer and then a length.
@@ -115,6 +122,12 @@ mod exported {
         pub fn thawonlai_read(file: *const u8, length: usize) -> Found;
         pub fn thawonlai_copy(file: *const u8, length: usize, out: *mut u8, room: usize)
             -> Written;
+        pub fn thawonlai_listing(
+            file: *const u8,
+            length: usize,
+            out: *mut u8,
+            room: usize,
+        ) -> Listed;
     }
 }
 
@@ -140,35 +153,33 @@ pub fn copy(file: &[u8], out: &mut [u8]) -> Written {
     unsafe { exported::thawonlai_copy(file.as_ptr(), file.len(), out.as_mut_ptr(), out.len()) }
 }
 
+pub fn listing(file: &[u8], out: &mut [u8]) -> Listed {
+    unsafe { exported::thawonlai_listing(file.as_ptr(), file.len(), out.as_mut_ptr(), out.len()) }
+}
+
 // ------------------------------------------------------------- conversions
 
-impl From<model::Parameters> for Parameters {
-    fn from(p: model::Parameters) -> Parameters {
-        Parameters {
-            policy: p.policy,
-            priority: p.priority,
-            low: p.low,
-            max_repl: p.max_repl,
-            flag: p.flag,
-            budget: p.budget,
-            period: p.period,
+/// Parameters have the same fields on both sides, so one list of them serves both ways.
+macro_rules! same_parameters {
+    ($from:ty, $to:ty) => {
+        impl From<$from> for $to {
+            fn from(p: $from) -> $to {
+                Self {
+                    policy: p.policy,
+                    priority: p.priority,
+                    low: p.low,
+                    max_repl: p.max_repl,
+                    flag: p.flag,
+                    budget: p.budget,
+                    period: p.period,
+                }
+            }
         }
-    }
+    };
 }
 
-impl From<Parameters> for model::Parameters {
-    fn from(p: Parameters) -> model::Parameters {
-        model::Parameters {
-            policy: p.policy,
-            priority: p.priority,
-            low: p.low,
-            max_repl: p.max_repl,
-            flag: p.flag,
-            budget: p.budget,
-            period: p.period,
-        }
-    }
-}
+same_parameters!(model::Parameters, Parameters);
+same_parameters!(Parameters, model::Parameters);
 
 impl From<model::Event> for Event {
     fn from(e: model::Event) -> Event {

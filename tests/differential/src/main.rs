@@ -5,6 +5,7 @@
 use differential as board;
 use model::random::Random;
 use model::{Event, Parameters, State, MAX_EVENTS, THREADS};
+use std::fmt::Debug;
 use std::process::exit;
 
 const USAGE: &str = "differential [--events N] [--files N] [--singles N] [--seed S]";
@@ -295,12 +296,21 @@ fn file(r: &mut Random) -> Vec<u8> {
         0 => MAX_EVENTS as u64,
         1 => r.below(MAX_EVENTS as u64),
         2..=40 => 0,
+        41..=80 => r.below(300),
         _ => r.below(12),
     };
-    let (_, s) = model::open(0, n, &table);
-    let events: Vec<Event> = (0..count).map(|_| r.event(&s, 30)).collect();
-    let mut out = vec![0; model::total_bytes(n as usize, events.len())];
     let start = if r.one_in(8) { r.odd() } else { r.start() };
+    // the events follow each other's states, so that the listing shows more than a state just opened
+    let (_, mut s) = model::open(start, n, &table);
+    let damage = r.pick(&[0, 5, 30]);
+    let events: Vec<Event> = (0..count)
+        .map(|_| {
+            let e = r.event(&s, damage);
+            model::event(&mut s, &e);
+            e
+        })
+        .collect();
+    let mut out = vec![0; model::total_bytes(n as usize, events.len())];
     model::write(start, n, &table, &events, &mut out).expect("the buffer has the file's length");
     out
 }
@@ -369,9 +379,53 @@ fn model_copy(file: &[u8], out: &mut [u8]) -> board::Written {
     }
 }
 
+/// The model's listing put into a buffer, which keeps every byte where it is too short.
+fn model_listing(text: &[u8], out: &mut [u8]) -> board::Listed {
+    match out.get_mut(..text.len()) {
+        None => board::Listed {
+            status: model::status::BUFFER,
+            length: 0,
+        },
+        Some(to) => {
+            to.copy_from_slice(text);
+            board::Listed {
+                status: 0,
+                length: text.len(),
+            }
+        }
+    }
+}
+
+/// A buffer for `length` bytes, with contents of its own: too short, just long enough or longer.
+fn buffer(r: &mut Random, length: usize) -> Vec<u8> {
+    let room = match r.below(6) {
+        0 => length.saturating_sub(1),
+        1 => r.below(length as u64 + 1) as usize,
+        2 | 3 => length,
+        _ => length + r.below(50) as usize,
+    };
+    (0..room).map(|_| r.bits() as u8).collect()
+}
+
+/// The same answer, and the same bytes in the whole buffer.
+fn same_buffer<A: PartialEq + Debug>(
+    at: u64,
+    what: &str,
+    file: &[u8],
+    (a, ours): (A, &[u8]),
+    (b, theirs): (A, &[u8]),
+) {
+    if a != b || ours != theirs {
+        let detail = format!("model {a:?} {ours:?}\ncode {b:?} {theirs:?}\nof {file:?}");
+        differ("files", at, what, detail);
+    }
+}
+
 fn files(count: u64, seed: u64) {
     let mut reads = Tally::default();
     let mut copies = Tally::default();
+    let mut listings = Tally::default();
+    let (mut replayed, mut lines) = (0u64, 0u64);
     for k in 0..count {
         let at = seed.wrapping_add(k);
         let r = &mut case(at, 3);
@@ -399,24 +453,28 @@ fn files(count: u64, seed: u64) {
             differ("files", at, "reading", detail);
         }
         reads.add(a.status);
-        let room = match r.below(6) {
-            0 => file.len().saturating_sub(1),
-            1 => r.below(file.len() as u64 + 1) as usize,
-            2 | 3 => file.len(),
-            _ => file.len() + r.below(50) as usize,
-        };
-        let mut ours: Vec<u8> = (0..room).map(|_| r.bits() as u8).collect();
+        let mut ours = buffer(r, file.len());
         let mut theirs = ours.clone();
         let a = model_copy(&file, &mut ours);
         let b = board::copy(&file, &mut theirs);
-        if a != b || ours != theirs {
-            let detail = format!("model {a:?} {ours:?}\ncode {b:?} {theirs:?}\nof {file:?}");
-            differ("files", at, "copying", detail);
-        }
+        same_buffer(at, "copying", &file, (a, &ours), (b, &theirs));
         copies.add(a.status);
+        let text = model::listing(&file);
+        let mut ours = buffer(r, text.len());
+        let mut theirs = ours.clone();
+        let a = model_listing(&text, &mut ours);
+        let b = board::listing(&file, &mut theirs);
+        same_buffer(at, "listing", &file, (a, &ours), (b, &theirs));
+        listings.add(a.status);
+        if !text.starts_with(b"refused") {
+            replayed += 1;
+            lines += text.iter().filter(|c| **c == b'\n').count() as u64;
+        }
     }
     if count > 0 {
         reads.print("files read");
         copies.print("files copied");
+        listings.print("files listed");
+        println!("  {replayed} of them replayed, in {lines} lines; the others refused");
     }
 }

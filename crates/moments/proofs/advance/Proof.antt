@@ -1,7 +1,7 @@
 -- `moments::advance` meets its contract: each turn does one thing that happens, and time goes on from there as it did before.
 use Prim.Native.Nat.{ℕ, _-_, _<_}
 use mathlib.Core.Bool.{Bool, true, false, cond}
-use mathlib.Core.Path.{_≡_, refl, sym, _∙_, subst⁻¹}
+use mathlib.Core.Path.{_≡_, refl, sym, ap, _∙_, subst⁻¹}
 use lib.ListN.{length}
 use native.Mathlib.Omega.{arith}
 use lib.Dec.{eqb}
@@ -10,35 +10,45 @@ use Rattle.records.proofs.TestLaws.{tests, false-true}
 use Rattle.passing.specs.Time.{dueBy}
 use Rattle.state.specs.declared.State.{State}
 use Rattle.state.specs.State.{threadAt}
-use Rattle.state.proofs.SoundLaws.{state-out}
-use Rattle.moments.proofs.TurnLaws.{Going, weight, start}
+use Rattle.state.proofs.SoundLaws.{Sound, state-out}
+use Rattle.ticks.specs.Running.{nextDue}
+use Rattle.moments.proofs.TurnLaws.{weight, start}
 use Rattle.moments.proofs.SeenLaws.{seen-held, top-small, thread-fits}
 use Rattle.moments.proofs.StepLaws.{Sendable}
-use Rattle.moments.proofs.AdvanceLaws.{Turn, Ticked, tickedState, Chosen, Acted, rest-fits, rest-idle, last, not-before, moment-fits, moment-idle}
-use Rattle.moments.proofs.AdvanceLaws.{ended-movable, ended-turn, number-small, limit-requires, acts, outcome-place}
+use Rattle.moments.proofs.AdvanceLaws.{Between, Turn, Ticked, tickedState, Chosen, Acted, Put, rest-fits, rest-idle, last, not-before, moment-fits, moment-idle}
+use Rattle.moments.proofs.AdvanceLaws.{ended-movable, ended-turn, number-small, limit-requires, ruled, acts, limit-due, put-going, put-falls}
 use Rattle.moments.proofs.advance.Statement.{statement}
 use Rattle.moments.proofs.advance.Tie as tie
 
 abbrev Inv-loop : tie.InvT-loop
-Inv-loop t s₀ s = Going s₀ t s
+Inv-loop t s₀ n x₀ s x = Between s₀ t n s x
 
 abbrev μ-loop : tie.MeasureT-loop
-μ-loop t s₀ s = weight t s
+μ-loop t s₀ n x₀ s x = weight t s
 
-loop-holds : tie.Need-loop-holds Inv-loop μ-loop
-loop-holds c = start (c .args .s0) (c .args .t) (state-out (c .args .s0) (c .pre .0)) (c .pre .1)
+-- ---- before the first turn
+
+sound : (c : tie.Start Inv-loop μ-loop) → Sound (c .args .s0)
+sound c = state-out (c .args .s0) (c .pre .0)
 
 cast-n : tie.Need-cast-n Inv-loop μ-loop
-cast-n c = omega (tests, c .loop .inv .mid .sizes)
+cast-n c = omega (tests, sound c .sizes)
 
 next-due-requires : tie.Need-next-due-requires Inv-loop μ-loop
-next-due-requires c κs = omega (tests, c .before .before .before .loop .inv .mid .sizes)
+next-due-requires c κs = omega (tests, sound (c .before .before .before) .sizes)
+
+loop-holds : tie.Need-loop-holds Inv-loop μ-loop
+loop-holds c =
+    let a = c .before .before .before .before in
+    record { going = start (a .args .s0) (a .args .t) (sound a) (a .pre .1); size = refl; first = c .next-due .ensures }
+
+-- ---- the next moment
 
 highest-requires : tie.Need-highest-requires Inv-loop μ-loop
 highest-requires c κs = tt
 
 head-at-requires : tie.Need-head-at-requires Inv-loop μ-loop
-head-at-requires c κs = let a = c .before .before .before .before .before .before .before .loop in seen-held (λ i. a .s .now - 1) (a .s) (a .inv .mid) (c .before .before .highest .result) (c .before .before .highest .ensures)
+head-at-requires c κs = let a = c .before .before .before .loop in seen-held (λ i. a .s .now - 1) (a .s) (a .inv .going .mid) (c .before .before .highest .result) (c .before .before .highest .ensures)
 
 wide-requires : tie.Need-wide-requires Inv-loop μ-loop
 wide-requires c κs = tt
@@ -46,8 +56,8 @@ wide-requires c κs = tt
 -- the head is a thread number
 head-small : (c : tie.After-wide Inv-loop μ-loop) → c .wide .result < 32
 head-small c =
-    let a = c .before .before .before .before .before .before .before .before .before .loop in
-    omega (arith, c .wide .ensures, top-small (λ i. a .s .now - 1) (a .s) (a .inv .mid) (c .before .before .before .before .highest .result) (c .before .head-at .result) (c .before .before .before .before .highest .ensures) (c .before .head-at .ensures))
+    let a = c .before .before .before .before .before .loop in
+    omega (arith, c .wide .ensures, top-small (λ i. a .s .now - 1) (a .s) (a .inv .going .mid) (c .before .before .before .before .highest .result) (c .before .head-at .result) (c .before .before .before .before .highest .ensures) (c .before .head-at .ensures))
 
 mul-before : tie.Need-mul-before Inv-loop μ-loop
 mul-before c = omega (arith, head-small c)
@@ -57,9 +67,9 @@ element-copy-out-before c = head-small c
 
 limit-at-requires : tie.Need-limit-at-requires Inv-loop μ-loop
 limit-at-requires c κs =
-    let a = c .before .before .before .before .before .before .before .before .before .before .loop in
-    let f = thread-fits (λ i. a .s .now - 1) (a .s) (a .inv .mid) (c .before .wide .result) (head-small (c .before)) in
-    omega (tests, f .left, f .server, a .inv .mid .sizes)
+    let a = c .before .before .before .before .before .before .loop in
+    let f = thread-fits (λ i. a .s .now - 1) (a .s) (a .inv .going .mid) (c .before .wide .result) (head-small (c .before)) in
+    omega (tests, f .left, f .server, a .inv .going .mid .sizes)
 
 earlier-of-requires : tie.Need-earlier-of-requires Inv-loop μ-loop
 earlier-of-requires c κs = tt
@@ -71,22 +81,25 @@ due-by-requires c κs = tt
 abbrev Read : Type 0
 Read = tie.After-earlier-of Inv-loop μ-loop
 
+abbrev entry : Read → tie.Start Inv-loop μ-loop
+entry e = e .before .before .before .before .before .before .before .before .before .before .before .before .before
+
 abbrev turn : Read → Turn
 turn e =
     record {
-      origin = e .before .before .before .before .before .before .before .before .before .before .before .before .before .args .s0;
-      to = e .before .before .before .before .before .before .before .before .before .before .before .before .before .args .t;
-      bounded = e .before .before .before .before .before .before .before .before .before .before .before .before .before .pre .2;
-      state = e .before .before .before .before .before .before .before .before .before .before .before .before .loop .s;
-      going = e .before .before .before .before .before .before .before .before .before .before .before .before .loop .inv;
-      first = e .before .before .before .before .before .before .before .before .next-due .result;
+      origin = entry e .args .s0;
+      to = entry e .args .t;
+      bounded = entry e .pre .2;
+      state = e .before .before .before .before .before .before .before .before .loop .s;
+      going = e .before .before .before .before .before .before .before .before .loop .inv .going;
+      first = e .before .before .before .before .before .before .before .before .loop .x;
       list = e .before .before .before .before .before .before .before .highest .result;
       head = e .before .before .before .before .head-at .result;
       at = e .before .before .before .wide .result;
       limit = e .before .limit-at .result;
       moment = e .earlier-of .result;
       seen = record {
-        first = e .before .before .before .before .before .before .before .before .next-due .ensures;
+        first = e .before .before .before .before .before .before .before .before .loop .inv .first;
         list = e .before .before .before .before .before .before .before .highest .ensures;
         top = e .before .before .before .before .head-at .ensures;
         at = e .before .before .before .wide .ensures;
@@ -94,6 +107,9 @@ turn e =
         moment = e .earlier-of .ensures;
       };
     }
+
+abbrev size : (e : Read) → turn e .state .header .n ≡ entry e .args .s0 .header .n
+size e = e .before .before .before .before .before .before .before .before .loop .inv .size
 
 -- ---- no moment is due by t
 
@@ -139,6 +155,9 @@ element-set-from-after c = head-small (c .before .before .before .before .before
 charged-idle-requires-2 : tie.Need-charged-idle-requires-2 Inv-loop μ-loop
 charged-idle-requires-2 c κs = moment-idle (turn (c .before .before .before)) (is-due (c .before))
 
+limit-first-requires : tie.Need-limit-first-requires Inv-loop μ-loop
+limit-first-requires c κs = tt
+
 ends-quantum-requires : tie.Need-ends-quantum-requires Inv-loop μ-loop
 ends-quantum-requires c κs = tt
 
@@ -159,6 +178,19 @@ ticked c =
       thread-is = c .before .charged-thread2 .ensures;
     }
 
+-- whether the moment is the limit is decided
+abbrev Decided : Type 0
+Decided = tie.After-limit-first Inv-loop μ-loop
+
+is-limit : (e : Decided) → e .limit-first .result ≡ eqb (turnOf (e .before) .moment) (turnOf (e .before) .limit)
+is-limit e = e .limit-first .ensures ∙ ap (λ (m : ℕ). eqb m (turnOf (e .before) .limit)) (sym (turnOf (e .before) .seen .moment))
+
+-- and with it whether a quantum ends
+ends : (c : tie.After-ends-quantum Inv-loop μ-loop)
+    → c .ends-quantum .result
+    ≡ cond (eqb (turnOf (c .before .before) .moment) (turnOf (c .before .before) .limit)) (eqb (ticked (c .before .before) .thread .parameters .policy) 1) false
+ends c = c .ends-quantum .ensures ∙ ap (λ (b : Bool). cond b (eqb (ticked (c .before .before) .thread .parameters .policy) 1) false) (is-limit (c .before))
+
 -- ---- the end of a quantum
 
 both : (a x : Bool) → cond a x false ≡ true → (a ≡ true) × (x ≡ true)
@@ -166,34 +198,40 @@ both true x e = (refl, e)
 both false x e = false-true e
 
 at-end : (c : tie.Then2 Inv-loop μ-loop)
-    → (eqb (turnOf (c .before .before) .moment) (turnOf (c .before .before) .limit) ≡ true) × (eqb (ticked (c .before .before) .thread .parameters .policy) 1 ≡ true)
-at-end c = both _ _ (sym (c .before .ends-quantum .ensures) ∙ c .if2 .taken)
+    → (eqb (turnOf (c .before .before .before) .moment) (turnOf (c .before .before .before) .limit) ≡ true)
+    × (eqb (ticked (c .before .before .before) .thread .parameters .policy) 1 ≡ true)
+at-end c = both _ _ (sym (ends (c .before)) ∙ c .if2 .taken)
 
 refilled-requires : tie.Need-refilled-requires Inv-loop μ-loop
 refilled-requires c κs = tt
 
 mul-full : tie.Need-mul-full Inv-loop μ-loop
-mul-full c = omega (arith, head-small (c .before .before .before .before .before .before .before .before .before .before))
+mul-full c = omega (arith, head-small (c .before .before .before .before .before .before .before .before .before .before .before))
 
 element-set-from-full : tie.Need-element-set-from-full Inv-loop μ-loop
-element-set-from-full c = head-small (c .before .before .before .before .before .before .before .before .before .before)
+element-set-from-full c = head-small (c .before .before .before .before .before .before .before .before .before .before .before)
 
 move-to-tail-requires : tie.Need-move-to-tail-requires Inv-loop μ-loop
-move-to-tail-requires c κs = let d = c .before .before .before .before in ended-movable (turnOf d) (ticked d) (at-end (c .before .before) .0)
+move-to-tail-requires c κs = let d = c .before .before .before .before .before in ended-movable (turnOf d) (ticked d) (at-end (c .before .before) .0)
 
 loop-less : tie.Need-loop-less Inv-loop μ-loop
 loop-less c =
-    let d = c .before .before .before .before .before in
+    let d = c .before .before .before .before .before .before in
     let q = at-end (c .before .before .before) in
     (ended-turn (turnOf d) (ticked d) (q .0) (eqb-true _ _ (q .1)) (c .before .before .refilled .result) (c .move-to-tail .result) _
     (c .before .before .refilled .ensures) (c .move-to-tail .ensures .1) (c .move-to-tail .ensures .0)) .1
 
 loop-again : tie.Need-loop-again Inv-loop μ-loop
 loop-again c =
-    let d = c .before .before .before .before .before in
+    let d = c .before .before .before .before .before .before in
     let q = at-end (c .before .before .before) in
-    (ended-turn (turnOf d) (ticked d) (q .0) (eqb-true _ _ (q .1)) (c .before .before .refilled .result) (c .move-to-tail .result) _
-    (c .before .before .refilled .ensures) (c .move-to-tail .ensures .1) (c .move-to-tail .ensures .0)) .0
+    record {
+      going =
+          (ended-turn (turnOf d) (ticked d) (q .0) (eqb-true _ _ (q .1)) (c .before .before .refilled .result) (c .move-to-tail .result) _
+          (c .before .before .refilled .ensures) (c .move-to-tail .ensures .1) (c .move-to-tail .ensures .0)) .0;
+      size = size (d .before .before .before .before);
+      first = turnOf d .seen .first;
+    }
 
 -- ---- a limit or what is due
 
@@ -203,15 +241,18 @@ concerned-requires c κs = tt
 abbrev Concerned : Type 0
 Concerned = tie.After-concerned Inv-loop μ-loop
 
+abbrev decided : Concerned → Decided
+decided k = k .before .before .before
+
 abbrev of : Concerned → Charged
-of k = k .before .before .before
+of k = decided k .before
 
 abbrev chosen : (k : Concerned) → Chosen (turnOf (of k)) (ticked (of k))
 chosen k =
     record {
-      not-ended = sym (k .before .before .ends-quantum .ensures) ∙ k .before .if2 .left;
+      not-ended = sym (ends (k .before .before)) ∙ k .before .if2 .left;
       number = k .concerned .result;
-      number-is = k .concerned .ensures;
+      number-is = k .concerned .ensures ∙ ap (λ (b : Bool). cond b (turnOf (of k) .at) (turnOf (of k) .first .thread)) (is-limit (decided k));
     }
 
 small : (k : Concerned) → k .concerned .result < 32
@@ -234,35 +275,38 @@ pending-at-requires c κs = let k = c .before .before .before .before .before in
 
 outcome-at-requires : tie.Need-outcome-at-requires Inv-loop μ-loop
 outcome-at-requires c κs =
-    let k = c .before .before .before .before .before .before .before in
-    limit-requires (turnOf (of k)) (ticked (of k)) (chosen k) (c .before .pending-at .result) (c .before .pending-at .ensures)
+    let k = c .before .before .before .before .before .before in
+    λ q. limit-requires (turnOf (of k)) (ticked (of k)) (chosen k) (c .pending-at .result) (c .pending-at .ensures) (sym (is-limit (decided k)) ∙ q)
 
 -- the account's rule is done
 abbrev Ruled : Type 0
 Ruled = tie.After-outcome-at Inv-loop μ-loop
 
 abbrev for : Ruled → Concerned
-for c = c .before .before .before .before .before .before .before .before
+for c = c .before .before .before .before .before .before .before
 
 abbrev stateOf : Ruled → State
 stateOf c = tickedState (turnOf (of (for c))) (ticked (of (for c)))
 
+rule : (c : Ruled) → c .outcome-at .result ≡ ruled (turnOf (of (for c))) (ticked (of (for c))) (chosen (for c)) (c .before .pending-at .result)
+rule c = rw (is-limit (decided (for c))) at (c .outcome-at .ensures)
+
 acted : (c : Ruled) → Acted (turnOf (of (for c))) (stateOf c) (for c .concerned .result) (c .outcome-at .result)
 acted c =
     let k = for c in
-    acts (turnOf (of k)) (ticked (of k)) (chosen k) (c .before .before .pending-at .result) (c .outcome-at .result) (c .before .before .pending-at .ensures) (c .outcome-at .ensures)
+    acts (turnOf (of k)) (ticked (of k)) (chosen k) (c .before .pending-at .result) (c .outcome-at .result) (c .before .pending-at .ensures) (rule c)
 
 narrow-requires : tie.Need-narrow-requires Inv-loop μ-loop
-narrow-requires c κs = omega (arith, small (c .before .before .before .before .before .before .before .before .before .before .before .before .before .before))
+narrow-requires c κs = omega (arith, small (for (c .before .before .before .before .before .before)))
 
 with-server-requires : tie.Need-with-server-requires Inv-loop μ-loop
 with-server-requires c κs = tt
 
 mul-changed : tie.Need-mul-changed Inv-loop μ-loop
-mul-changed c = omega (arith, small (c .before .before .before .before .before .before .before .before .before .before .before .before .before .before .before .before))
+mul-changed c = omega (arith, small (for (c .before .before .before .before .before .before .before .before)))
 
 element-set-from-changed : tie.Need-element-set-from-changed Inv-loop μ-loop
-element-set-from-changed c = small (c .before .before .before .before .before .before .before .before .before .before .before .before .before .before .before .before)
+element-set-from-changed c = small (for (c .before .before .before .before .before .before .before .before))
 
 send-requires : tie.Need-send-requires Inv-loop μ-loop
 send-requires c κs =
@@ -274,29 +318,80 @@ send-requires c κs =
     (r .stays, r .low, r .both, r .upper)
 
 element-write-s : tie.Need-element-write-s Inv-loop μ-loop
-element-write-s c = small (c .before .before .before .before .before .before .before .before .before .before .before .before .before .before .before .before .before .before)
+element-write-s c = small (for (c .before .before .before .before .before .before .before .before .before .before))
 
 write-row-requires : tie.Need-write-row-requires Inv-loop μ-loop
-write-row-requires c κs = let k = c .before .before .before .before .before .before .before .before .before .before .before .before .before .before .before .before .before .before .before in (small k, dues-length k)
+write-row-requires c κs = let k = for (c .before .before .before .before .before .before .before .before .before .before .before) in (small k, dues-length k)
 
 write-row-requires-2 : tie.Need-write-row-requires-2 Inv-loop μ-loop
-write-row-requires-2 c κs = let k = c .before .before .before .before .before .before .before .before .before .before .before .before .before .before .before .before .before .before .before .before .before in (small k, amounts-length k)
+write-row-requires-2 c κs = let k = for (c .before .before .before .before .before .before .before .before .before .before .before .before .before) in (small k, amounts-length k)
+
+-- its outcome is in place
+abbrev Written : Type 0
+Written = tie.After-write-row2 Inv-loop μ-loop
+
+abbrev ruling : Written → Ruled
+ruling c = c .before .before .before .before .before .before .before .before .before .before .before .before .before .before
+
+abbrev placed : (c : Written) → Put (stateOf (ruling c)) (for (ruling c) .concerned .result) (ruling c .outcome-at .result)
+placed c =
+    record {
+      number = c .before .before .before .before .before .before .before .narrow .result;
+      word = c .before .before .before .before .send .result;
+      thread = c .before .before .before .before .before .before .with-server .result;
+      dues = _;
+      amounts = _;
+      lists = _;
+      number-is = c .before .before .before .before .before .before .before .narrow .ensures;
+      word-is = c .before .before .before .before .send .ensures .1;
+      thread-is = c .before .before .before .before .before .before .with-server .ensures;
+      dues-is = c .before .before .write-row .ensures;
+      amounts-is = c .write-row2 .ensures;
+      lists-is = c .before .before .before .before .send .ensures .0;
+    }
+
+-- ---- after a limit
+
+array-read-after-limit : tie.Need-array-read-after-limit Inv-loop μ-loop
+array-read-after-limit c = omega arith
+
+after-limit-requires : tie.Need-after-limit-requires Inv-loop μ-loop
+after-limit-requires c κs = tt
 
 loop-less-2 : tie.Need-loop-less-2 Inv-loop μ-loop
-loop-less-2 c =
-    let o = c .before .before .before .before .before .before .before .before .before .before .before .before .before .before in
-    subst⁻¹ (λ (y : State). weight (turnOf (of (for o)) .to) y < weight (turnOf (of (for o)) .to) (turnOf (of (for o)) .state))
-    (outcome-place (stateOf o) (for o .concerned .result) (o .outcome-at .result) (c .before .before .before .before .before .before .before .narrow .result) (c .before .before .before .before .send .result) (c .before .before .before .before .before .before .with-server .result) _ _ _
-    (c .before .before .before .before .before .before .before .narrow .ensures) (c .before .before .before .before .send .ensures .0) (c .before .before .before .before .send .ensures .1) (c .before .before .before .before .before .before .with-server .ensures) (c .before .before .write-row .ensures) (c .write-row2 .ensures))
-    (acted o .falls)
+loop-less-2 c = let w = c .before .before in put-falls (turnOf (of (for (ruling w)))) _ _ _ (placed w) (acted (ruling w))
 
 loop-again-2 : tie.Need-loop-again-2 Inv-loop μ-loop
 loop-again-2 c =
-    let o = c .before .before .before .before .before .before .before .before .before .before .before .before .before .before in
-    subst⁻¹ (Going (turnOf (of (for o)) .origin) (turnOf (of (for o)) .to))
-    (outcome-place (stateOf o) (for o .concerned .result) (o .outcome-at .result) (c .before .before .before .before .before .before .before .narrow .result) (c .before .before .before .before .send .result) (c .before .before .before .before .before .before .with-server .result) _ _ _
-    (c .before .before .before .before .before .before .before .narrow .ensures) (c .before .before .before .before .send .ensures .0) (c .before .before .before .before .send .ensures .1) (c .before .before .before .before .before .before .with-server .ensures) (c .before .before .write-row .ensures) (c .write-row2 .ensures))
-    (acted o .going)
+    let w = c .before .before in
+    let o = ruling w in
+    let k = for o in
+    record {
+      going = put-going (turnOf (of k)) _ _ _ (placed w) (acted o);
+      size = size (of k .before .before .before .before);
+      first =
+          limit-due (turnOf (of k)) (ticked (of k)) (chosen k) (o .before .pending-at .result) (o .outcome-at .result) (o .before .pending-at .ensures) (rule o)
+          (sym (is-limit (decided k)) ∙ c .before .if3 .taken) (placed w) (c .after-limit .result) (c .after-limit .ensures);
+    }
+
+-- ---- after a replenishment
+
+next-due-requires-2 : tie.Need-next-due-requires-2 Inv-loop μ-loop
+next-due-requires-2 c κs = let k = for (ruling (c .before .before .before .before)) in omega (tests, size (of k .before .before .before .before), turnOf (of k) .going .mid .sizes)
+
+loop-less-3 : tie.Need-loop-less-3 Inv-loop μ-loop
+loop-less-3 c = let w = c .before .before .before .before .before in put-falls (turnOf (of (for (ruling w)))) _ _ _ (placed w) (acted (ruling w))
+
+loop-again-3 : tie.Need-loop-again-3 Inv-loop μ-loop
+loop-again-3 c =
+    let w = c .before .before .before .before .before in
+    let o = ruling w in
+    let k = for o in
+    record {
+      going = put-going (turnOf (of k)) _ _ _ (placed w) (acted o);
+      size = size (of k .before .before .before .before);
+      first = c .next-due2 .ensures ∙ ap (nextDue _ _) (sym (size (of k .before .before .before .before)));
+    }
 
 pub advance-spec : {M : Type 1} → statement M
 advance-spec =
@@ -304,9 +399,9 @@ advance-spec =
     (tie.spec
     Inv-loop
     μ-loop
-    loop-holds
     cast-n
     next-due-requires
+    loop-holds
     highest-requires
     head-at-requires
     wide-requires
@@ -326,6 +421,7 @@ advance-spec =
     mul-after
     element-set-from-after
     charged-idle-requires-2
+    limit-first-requires
     ends-quantum-requires
     refilled-requires
     mul-full
@@ -346,5 +442,10 @@ advance-spec =
     element-write-s
     write-row-requires
     write-row-requires-2
+    array-read-after-limit
+    after-limit-requires
     loop-less-2
-    loop-again-2)
+    loop-again-2
+    next-due-requires-2
+    loop-less-3
+    loop-again-3)

@@ -1,22 +1,15 @@
 -- `ready::all_zero` meets its contract: what was seen and what is left to test give the whole answer.
 use Prim.Native.Nat.{ℕ, _-_, _≤_}
 use mathlib.Core.Path.{_≡_, refl, sym, ap, _∙_}
-use mathlib.Core.Bool.{Bool, true, false, cond}
+use mathlib.Core.Bool.{Bool, false, cond}
 use mathlib.Core.List.{List, []}
 use native.Mathlib.Omega.{arith}
 use lib.ListN.{length, drop, drop-of-length-le}
 use Rattle.records.specs.Tests.{all, zeros}
+use Rattle.records.proofs.TestLaws.{all-one, cond-never}
 use Rattle.ready.proofs.StepLaws.{zeros-here, zeros-next}
 use Rattle.ready.proofs.all_zero.Statement.{statement}
 use Rattle.ready.proofs.all_zero.Tie as tie
-
-never : (b : Bool) → cond b false false ≡ false
-never true = refl
-never false = refl
-
-itself : (b : Bool) → b ≡ cond b true false
-itself true = refl
-itself false = refl
 
 abbrev Inv-loop : tie.InvT-loop
 Inv-loop s clean₀ j₀ clean j = (j ≤ length s) × (cond clean (all (zeros (drop j s))) false ≡ all (zeros s))
@@ -41,7 +34,7 @@ loop-again c =
     let b = c .before .before .before in
     let l = b .loop in
     let e = zeros-here (b .before .args .s .now) (l .j) (omega arith) (c .if1 .taken) in
-    (omega arith, sym (never (l .clean)) ∙ sym (ap (λ (t : Bool). cond (l .clean) t false) e) ∙ l .inv .1)
+    (omega arith, sym (cond-never (l .clean)) ∙ sym (ap (λ (t : Bool). cond (l .clean) t false) e) ∙ l .inv .1)
 
 loop-less-2 : tie.Need-loop-less-2 Inv-loop μ-loop
 loop-less-2 c = omega arith
@@ -59,7 +52,7 @@ returns c =
     let b = c .before in
     let s = b .before .args .s .now in
     let d : drop (b .loop .j) s ≡ [] = drop-of-length-le s {i = b .loop .j} (omega arith) in
-    itself (b .loop .clean)
+    sym (all-one (b .loop .clean))
     ∙ sym (ap (λ (t : List ℕ). cond (b .loop .clean) (all (zeros t)) false) d)
     ∙ b .loop .inv .1
 

@@ -8,16 +8,16 @@ use Rattle.ready.proofs.close.Statement.{statement}
 use Rattle.ready.proofs.close.Tie as tie
 
 abbrev Inv-loop : tie.InvT-loop
-Inv-loop lists₀ at n j₀ lists j = (j < n) × (lists ≡ upto lists₀ at j)
+Inv-loop lists₀ at n last j₀ lists j = (j < n) × (lists ≡ upto lists₀ at j)
 
 abbrev μ-loop : tie.MeasureT-loop
-μ-loop lists₀ at n j₀ lists j = n - j
+μ-loop lists₀ at n last j₀ lists j = n - j
+
+sub-last : tie.Need-sub-last Inv-loop μ-loop
+sub-last c = omega arith
 
 loop-holds : tie.Need-loop-holds Inv-loop μ-loop
 loop-holds c = (omega arith, at-first (c .args .lists .now) (c .args .at))
-
-add-loop : tie.Need-add-loop Inv-loop μ-loop
-add-loop c = omega arith
 
 add-x : tie.Need-add-x Inv-loop μ-loop
 add-x c = omega arith
@@ -67,8 +67,8 @@ close-spec =
     (tie.spec
     Inv-loop
     μ-loop
+    sub-last
     loop-holds
-    add-loop
     add-x
     add-x-2
     element-copy-out-x

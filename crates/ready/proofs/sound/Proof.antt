@@ -12,9 +12,6 @@ use Rattle.ready.specs.Sound.{soundRows, soundLists}
 use Rattle.ready.proofs.sound.Statement.{statement}
 use Rattle.ready.proofs.sound.Tie as tie
 
-slice-aggregate-sound-rows : tie.Need-slice-aggregate-sound-rows
-slice-aggregate-sound-rows c = search needs
-
 sound-rows-requires : tie.Need-sound-rows-requires
 sound-rows-requires c κs = search needs
 
@@ -28,11 +25,12 @@ word-of-requires c κs = search needs
 returns-2 : tie.Need-returns-2
 unfolding soundLists all
 returns-2 c =
-    let d = c .before .before .before in
+    let d = c .before .before in
     let a = d .before .before .args in
-    let n : length (a .t1) ≡ 1056 = omega arith in
-    let r : soundRows (λ i. getD (a .places) i 0) (a .t1) ≡ true = sym (d .sound-rows .ensures) ∙ not-false _ (c .before .before .if1 .left) in
-    ap (eqb (a .word)) (c .word-of .ensures) ∙ sym (simp (eq-eqb (length (a .t1)) 1056 n, r, all-one))
+    let l = a .lists .now in
+    let n : length l ≡ 1056 = omega arith in
+    let r : soundRows (λ i. getD (a .places) i 0) l ≡ true = sym (d .sound-rows .ensures) ∙ not-false _ (c .before .if1 .left) in
+    ap (eqb (a .word)) (c .word-of .ensures) ∙ sym (simp (eq-eqb (length l) 1056 n, r, all-one))
 
 pub sound-spec : {M : Type 1} → statement M
-sound-spec = tie.close (tie.spec slice-aggregate-sound-rows sound-rows-requires returns word-of-requires returns-2)
+sound-spec = tie.close (tie.spec sound-rows-requires returns word-of-requires returns-2)

@@ -34,7 +34,7 @@ returns-5 c = search needs
 move-to-tail-requires : tie.Need-move-to-tail-requires
 move-to-tail-requires c κs =
     let s = c .before .before .before .before .before .before in
-    let a = s .before .before .before .args in
+    let a = s .before .before .before .before .args in
     let place : ℕ → ℕ = λ i. getD (a .c .places) i 0 in
     let h = sound-true place (a .c .word) (a .c .lists) (sym (s .sound .ensures) ∙ not-false _ (c .before .before .before .before .before .if1 .left)) in
     let m : a .i < 32 = omega arith in

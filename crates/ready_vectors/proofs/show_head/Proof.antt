@@ -39,11 +39,11 @@ text-requires-2 c κs = search needs
 head-requires : tie.Need-head-requires
 head-requires c κs =
     let s = c .before .before .before .before in
-    let g = s .before .before .before .before .before in
+    let g = s .before .before .before .before .before .before in
     let a = g .before .before .before .args in
     let place : ℕ → ℕ = λ i. getD (a .c .places) i 0 in
     let h = sound-true place (a .c .word) (a .c .lists) (sym (s .sound .ensures) ∙ not-false _ (c .before .before .before .if2 .left)) in
-    rw (g .highest .ensures) (highest-sound place (a .c .word) (a .c .lists) h (s .before .if1 .left) .held)
+    rw (g .highest .ensures) (highest-sound place (a .c .word) (a .c .lists) h (s .before .before .if1 .left) .held)
 
 byte-requires-2 : tie.Need-byte-requires-2
 byte-requires-2 c κs = search needs

@@ -1,5 +1,5 @@
 -- `state::tests::absent_zero` meets its contract.
-use mathlib.Core.Path.{sym, ap, _∙_}
+use mathlib.Core.Path.{sym, ap}
 use mathlib.Core.Bool.{Bool, not}
 use mathlib.Core.List.{List, [], _∷_}
 use lib.Dec.{eqb}
@@ -10,7 +10,8 @@ use Rattle.records.proofs.TestLaws.{all-false}
 use Rattle.account.specs.declared.Pending.{Pending}
 use Rattle.state.specs.declared.Thread.{Thread}
 use Rattle.state.specs.Sound.{noAccountTests, absentTest}
-use Rattle.state.proofs.TestLaws.{decided-true, decided-false, _and_, all-last}
+use Rattle.state.proofs.RowLaws.{pendingOf}
+use Rattle.state.proofs.TestLaws.{decided-true, decided-false, _and_, by-last}
 use borrow.Author.Needs.{needs}
 use Rattle.state.proofs.tests.absent_zero.Statement.{statement}
 use Rattle.state.proofs.tests.absent_zero.Tie as tie
@@ -52,14 +53,13 @@ returns-5 c =
     let b = c .before .before .before .before in
     let d = b .before .before .before .before in
     let a = d .before .before .args in
-    c .no-account .ensures
-    ∙ sym
-    (all-last (absentTests (a .t) (a .q))
+    let q = pendingOf (a .counts .now) (a .dues .now) (a .amounts .now) (a .i) in
+    by-last (absentTests (a .t) q) (c .no-account .ensures)
     (decided-true _ (d .all-zero .ensures) (b .before .before .before .if1 .left)
     and ap not (b .before .before .if2 .left)
     and eq-eqb _ _ (b .if3 .left)
     and eq-eqb _ _ (c .before .before .if4 .left)
-    and tt))
+    and tt)
 
 pub absent-zero-spec : {M : Type 1} → statement M
 absent-zero-spec =

@@ -1,7 +1,7 @@
 -- `state::tests::present_sound` meets its contract.
 use Prim.Native.Nat.{ℕ}
 use mathlib.Core.Bool.{Bool}
-use mathlib.Core.Path.{sym, _∙_}
+use mathlib.Core.Path.{sym}
 use mathlib.Core.List.{List, [], _∷_}
 use lib.Dec.{eqb}
 use borrow.Author.Tests.{eq-eqb, ne-eqb}
@@ -11,7 +11,8 @@ use Rattle.records.proofs.TestLaws.{all-false}
 use Rattle.account.specs.declared.Pending.{Pending}
 use Rattle.state.specs.declared.Thread.{Thread}
 use Rattle.state.specs.Sound.{leftTests, accountTest, presentTest}
-use Rattle.state.proofs.TestLaws.{decided-true, decided-false, _and_, all-last}
+use Rattle.state.proofs.RowLaws.{pendingOf}
+use Rattle.state.proofs.TestLaws.{decided-true, decided-false, _and_, by-last}
 use borrow.Author.Needs.{needs}
 use Rattle.state.proofs.tests.present_sound.Statement.{statement}
 use Rattle.state.proofs.tests.present_sound.Tie as tie
@@ -50,13 +51,12 @@ unfolding presentTest
 returns-4 c =
     let b = c .before .before .before in
     let a = b .before .before .before .before .before .args in
-    c .account-holds .ensures
-    ∙ sym
-    (all-last (presentTests (a .start) (a .now) (a .t) (a .q))
+    let q = pendingOf (a .counts .now) (a .dues .now) (a .amounts .now) (a .i) in
+    by-last (presentTests (a .start) (a .time) (a .t) q) (c .account-holds .ensures)
     (decided-true _ (b .before .before .before .in-range .ensures) (b .before .before .if1 .left)
     and eq-eqb _ _ (b .if2 .left)
     and decided-true _ (c .before .before .left-holds .ensures) (c .before .if3 .left)
-    and tt))
+    and tt)
 
 pub present-sound-spec : {M : Type 1} → statement M
 present-sound-spec =

@@ -1,0 +1,13 @@
+-- What the exported functions of the trace file answer.
+use Prim.Native.Nat.{ℕ}
+use mathlib.Core.List.{List}
+use Rattle.trace_reading.specs.declared.Contents.{Contents}
+use Rattle.trace_reading.specs.Read.{contentsOf}
+use Rattle.board_trace.specs.declared.Found.{Found}
+
+-- Trace 6: a read without its table
+abbrev pub foundOf : Contents → Found
+foundOf c = record { status = c .status; n = c .header .n; start = c .header .start; count = c .count }
+
+abbrev pub foundIn : List ℕ → Found
+foundIn file = foundOf (contentsOf file)

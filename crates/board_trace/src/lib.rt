@@ -1,0 +1,55 @@
+// The trace file for programs in other languages: a static library's exported functions, beside those of `board`.
+//
+// A struct is laid out as C lays it out, and a slice is a pointer and then a length.
+// None has a `requires`: any values may be handed in, and bad ones get their status.
+ghost use mathlib.Core.Path.{_≡_};
+ghost use Prim.Native.Nat.{_≤_};
+ghost use lib.ListN.{length};
+ghost use Rattle.trace.specs.Write.{copiedOf, copyOf};
+ghost use Rattle.listing.specs.Listing.{listedOf, bufferOf, largest};
+ghost use Rattle.board_trace.specs.Found.{foundIn};
+use listing::Listed;
+use trace::Written;
+
+// What a read finds: the status, the number of threads, the start time and the number of events.
+#[repr(C)]
+pub struct Found {
+    pub status: u8,
+    pub n: u32,
+    pub start: u64,
+    pub count: usize,
+}
+
+// Reads a trace file: its header and the number of its events.
+#[no_mangle]
+pub extern "C" fn thawonlai_read(file: &[u8]) -> Found
+    ensures { λ r. ⌜ r ≡ foundIn (now (file .entry)) ⌝ }
+{
+    let c = trace_reading::read(file);
+    let header = c.header;
+    Found {
+        status: c.status,
+        n: header.n,
+        start: header.start,
+        count: c.count,
+    }
+}
+
+// Reads a trace file and writes what was read into a buffer: the same bytes.
+#[no_mangle]
+pub extern "C" fn thawonlai_copy(file: &[u8], out: &mut [u8]) -> Written
+    ensures { λ r. ⌜ r ≡ copiedOf (now (file .entry)) (length (now (out .entry))) ⌝ }
+    ensures { λ _. ⌜ now (out .exit) ≡ copyOf (now (file .entry)) (now (out .entry)) ⌝ }
+{
+    trace::copy(file, out)
+}
+
+// Writes the listing of a trace file into a buffer; where it is too short for it, no byte is changed.
+#[no_mangle]
+pub extern "C" fn thawonlai_listing(file: &[u8], out: &mut [u8]) -> Listed
+    ensures { λ r. ⌜ r ≡ listedOf (now (file .entry)) (length (now (out .entry))) ⌝ }
+    ensures { λ _. ⌜ now (out .exit) ≡ bufferOf (now (file .entry)) (now (out .entry)) ⌝ }
+    ensures { λ r. ⌜ (largest ≤ length (now (out .entry)) → r .status ≡ 0) ⌝ }
+{
+    listing::listing(file, out)
+}

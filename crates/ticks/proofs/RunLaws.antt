@@ -1,0 +1,80 @@
+-- A thread's ticks and its limit, by policy.
+use Prim.Native.Nat.{ℕ, zero, suc, _+_, _-_}
+use mathlib.Core.Bool.{Bool, true, false, cond}
+use mathlib.Core.Path.{_≡_, refl, sym, _∙_}
+use lib.Dec.{eqb}
+use native.Mathlib.Omega.{arith}
+use borrow.Author.Tests.{eq-eqb, ne-eqb}
+use Rattle.records.specs.Tests.{byPolicy}
+use Rattle.records.proofs.TestLaws.{cond-true, cond-false}
+use Rattle.account.specs.declared.Server.{Server}
+use Rattle.account.specs.Rules.{charged}
+use Rattle.state.specs.declared.Thread.{Thread}
+use Rattle.ticks.specs.Running.{ran, limitOf}
+
+pub by-zero : {A : Type 0} (c : ℕ) (x y z : A) → c ≡ 0 → byPolicy c x y z ≡ x
+by-zero zero x y z e = refl
+by-zero (suc c) x y z e = absurd (omega arith)
+
+pub by-one : {A : Type 0} (c : ℕ) (x y z : A) → c ≡ 1 → byPolicy c x y z ≡ y
+by-one zero x y z e = absurd (omega arith)
+by-one (suc zero) x y z e = refl
+by-one (suc (suc c)) x y z e = absurd (omega arith)
+
+pub by-two : {A : Type 0} (c : ℕ) (x y z : A) → c ≡ 2 → byPolicy c x y z ≡ z
+by-two zero x y z e = absurd (omega arith)
+by-two (suc zero) x y z e = absurd (omega arith)
+by-two (suc (suc c)) x y z e = refl
+
+pub by-more : {A : Type 0} (c : ℕ) (x y z : A) → (c ≡ 0 → ⊥) → (c ≡ 1 → ⊥) → byPolicy c x y z ≡ z
+by-more zero x y z d e = absurd (d refl)
+by-more (suc zero) x y z d e = absurd (e refl)
+by-more (suc (suc c)) x y z d e = refl
+
+-- no ticks charge nothing
+pub charged-none : (v : Server) → charged 0 v ≡ v
+charged-none v = λ x. record { capacity = m (v .capacity) x; used = n (v .used) x; activation = v .activation }
+  where
+    m : (a : ℕ) → a - 0 ≡ a
+    m a = omega arith
+
+    n : (a : ℕ) → a + 0 ≡ a
+    n a = omega arith
+
+-- a thread with another run time, quantum left and server
+abbrev pub withRun : Thread → ℕ → ℕ → Server → Thread
+withRun t n l v = record { parameters = t .parameters; blocked = t .blocked; total = n; left = l; server = v }
+
+module _ (p k : ℕ) (t : Thread) where
+  ran-is : (l : ℕ) (v : Server) → byPolicy (t .parameters .policy) (t .left) (t .left - k) (t .left) ≡ l
+      → byPolicy (t .parameters .policy) (t .server) (t .server) (cond (eqb p (t .parameters .priority)) (charged k (t .server)) (t .server)) ≡ v
+      → withRun t (t .total + k) l v ≡ ran p k t
+  ran-is l v a b =
+      λ x. record { parameters = t .parameters; blocked = t .blocked; total = t .total + k; left = sym a x; server = sym b x }
+
+  pub ran-fifo : t .parameters .policy ≡ 0 → withRun t (t .total + k) (t .left) (t .server) ≡ ran p k t
+  ran-fifo z = ran-is (t .left) (t .server) (by-zero (t .parameters .policy) _ _ _ z) (by-zero (t .parameters .policy) _ _ _ z)
+
+  pub ran-rr : t .parameters .policy ≡ 1 → withRun t (t .total + k) (t .left - k) (t .server) ≡ ran p k t
+  ran-rr z = ran-is (t .left - k) (t .server) (by-one (t .parameters .policy) _ _ _ z) (by-one (t .parameters .policy) _ _ _ z)
+
+  module _ (d : t .parameters .policy ≡ 0 → ⊥) (e : t .parameters .policy ≡ 1 → ⊥) where
+    pub ran-sporadic : (v : Server) → v ≡ charged (cond (eqb p (t .parameters .priority)) k 0) (t .server) → withRun t (t .total + k) (t .left) v ≡ ran p k t
+    ran-sporadic v c =
+        ran-is (t .left) v (by-more (t .parameters .policy) _ _ _ d e)
+        (by-more (t .parameters .policy) _ _ _ d e ∙ sym (c ∙ by (eqb p (t .parameters .priority))))
+      where
+        by : (b : Bool) → charged (cond b k 0) (t .server) ≡ cond b (charged k (t .server)) (t .server)
+        by true = refl
+        by false = charged-none (t .server)
+
+module _ (now p : ℕ) (t : Thread) where
+  pub limit-rr : t .parameters .policy ≡ 1 → limitOf now p t ≡ now + t .left
+  limit-rr z = by-one (t .parameters .policy) _ _ _ z
+
+  module _ (d : t .parameters .policy ≡ 0 → ⊥) (e : t .parameters .policy ≡ 1 → ⊥) where
+    pub limit-upper : p ≡ t .parameters .priority → limitOf now p t ≡ now + t .server .capacity
+    limit-upper q = by-more (t .parameters .policy) _ _ _ d e ∙ cond-true (eqb p (t .parameters .priority)) _ _ (eq-eqb p (t .parameters .priority) q)
+
+    pub limit-lower : (p ≡ t .parameters .priority → ⊥) → limitOf now p t ≡ 0
+    limit-lower q = by-more (t .parameters .policy) _ _ _ d e ∙ cond-false (eqb p (t .parameters .priority)) _ _ (ne-eqb p (t .parameters .priority) q)

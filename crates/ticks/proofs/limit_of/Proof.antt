@@ -1,0 +1,27 @@
+-- `ticks::limit_of` meets its contract: each return is a policy.
+use mathlib.Core.Path.{sym}
+use borrow.Author.Needs.{needs}
+use Rattle.ticks.proofs.RunLaws.{limit-rr, limit-upper, limit-lower}
+use Rattle.ticks.proofs.limit_of.Statement.{statement}
+use Rattle.ticks.proofs.limit_of.Tie as tie
+
+returns : tie.Need-returns
+returns c = search needs
+
+add-result : tie.Need-add-result
+add-result c = search needs
+
+returns-2 : tie.Need-returns-2
+returns-2 c = let a = c .before .before .before .before .before .before .args in sym (limit-rr (a .time) (a .p) (a .t) (c .before .if2 .taken))
+
+add-result-2 : tie.Need-add-result-2
+add-result-2 c = search needs
+
+returns-3 : tie.Need-returns-3
+returns-3 c = let a = c .before .before .before .before .before .before .before .before .args in sym (limit-upper (a .time) (a .p) (a .t) (c .before .before .before .before .before .if1 .left) (c .before .before .before .if2 .left) (c .before .if3 .taken))
+
+returns-4 : tie.Need-returns-4
+returns-4 c = let a = c .before .before .before .before .before .before .before .args in sym (limit-lower (a .time) (a .p) (a .t) (c .before .before .before .before .if1 .left) (c .before .before .if2 .left) (c .if3 .left))
+
+pub limit-of-spec : {M : Type 1} → statement M
+limit-of-spec = tie.close (tie.spec returns add-result returns-2 add-result-2 returns-3 returns-4)

@@ -1,0 +1,2 @@
+-- What a reader of `ticks` must believe.
+pub mod Running

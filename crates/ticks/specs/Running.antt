@@ -1,0 +1,89 @@
+-- Who runs, the next moment, and what so many ticks change.
+use Prim.Native.Nat.{ℕ, zero, suc, _+_, _-_, _*_, min}
+use mathlib.Core.Bool.{Bool, true, false, cond}
+use mathlib.Core.List.{List}
+use lib.ListN.{getD, set}
+use lib.Dec.{ltb, eqb}
+use Rattle.records.specs.Tests.{byPolicy}
+use Rattle.account.specs.Account.{entries}
+use Rattle.account.specs.Rules.{charged}
+use Rattle.ready.specs.Lists.{headOf}
+use Rattle.ready.specs.Word.{highestOf}
+use Rattle.state.specs.declared.Thread.{Thread}
+use Rattle.state.specs.declared.State.{State}
+use Rattle.state.specs.State.{threadAt}
+use Rattle.ticks.specs.declared.Due.{Due}
+
+-- State 4: the priority of the highest list that holds a thread, 0 for none
+abbrev pub level : State → ℕ
+level s = highestOf (s .word)
+
+-- State 18: the thread at its head runs
+abbrev pub head : State → ℕ
+head s = headOf (level s) (s .lists)
+
+-- nothing runs
+abbrev pub idles : State → Bool
+idles s = eqb (level s) 0
+
+-- Events 8: the running thread, 255 for none
+abbrev pub running : State → ℕ
+running s = cond (idles s) 255 (head s)
+
+-- Passing 3 and 4: k ticks of a thread that runs in list p. They are added to its total, taken from the quantum of an RR
+-- thread, and moved from capacity to U where p is the upper priority of a sporadic one; at low nothing is charged
+abbrev pub ran : ℕ → ℕ → Thread → Thread
+ran p k t =
+    record {
+      parameters = t .parameters;
+      blocked = t .blocked;
+      total = t .total + k;
+      left = byPolicy (t .parameters .policy) (t .left) (t .left - k) (t .left);
+      server =
+          byPolicy (t .parameters .policy) (t .server) (t .server)
+          (cond (eqb p (t .parameters .priority)) (charged k (t .server)) (t .server));
+    }
+
+-- Passing 3: k ticks go by for the running thread, or idle
+abbrev pub charge : ℕ → State → State
+charge k s =
+    record {
+      header = s .header;
+      now = s .now + k;
+      idle = s .idle + cond (idles s) k 0;
+      word = s .word;
+      threads = cond (idles s) (s .threads) (set (s .threads) (head s) (ran (level s) k (threadAt s (head s))));
+      counts = s .counts;
+      dues = s .dues;
+      amounts = s .amounts;
+      lists = s .lists;
+    }
+
+-- the earlier of two moments, 0 for none
+abbrev pub earlier : ℕ → ℕ → ℕ
+earlier zero b = b
+earlier (suc a) zero = suc a
+earlier (suc a) (suc b) = min (suc a) (suc b)
+
+-- Passing 2: when a thread that runs in list p reaches its limit or the end of its quantum, 0 for never
+abbrev pub limitOf : ℕ → ℕ → Thread → ℕ
+limitOf now p t =
+    byPolicy (t .parameters .policy) 0 (now + t .left)
+    (cond (eqb p (t .parameters .priority)) (now + t .server .capacity) 0)
+
+abbrev pub limit : State → ℕ
+limit s = cond (idles s) 0 (limitOf (s .now) (level s) (threadAt s (head s)))
+
+-- Passing 2: of the threads below n that have a replenishment pending, the least first due and the lowest thread that has
+-- it; 0 and thread 32 where none has one
+abbrev pub sooner : ℕ → ℕ → Due → Due
+sooner i d best = cond (eqb (best .thread) 32) (record { due = d; thread = i }) (cond (ltb d (best .due)) (record { due = d; thread = i }) best)
+
+unfoldable pub nextDue : List ℕ → List ℕ → ℕ → Due
+nextDue counts dues zero = record { due = 0; thread = 32 }
+nextDue counts dues (suc n) =
+    cond (eqb (getD counts n 0) 0) (nextDue counts dues n) (sooner n (getD dues (n * entries) 0) (nextDue counts dues n))
+
+-- Passing 2: the next moment, 0 for none
+abbrev pub next : State → ℕ
+next s = earlier (limit s) (nextDue (s .counts) (s .dues) (s .header .n) .due)

@@ -1,0 +1,2 @@
+-- What a reader of `trace_reader` must believe.
+pub mod Reader
