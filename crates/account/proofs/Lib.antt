@@ -1,5 +1,6 @@
 -- Laws of accounts.
 pub mod ChargeLaws
+pub mod EffectLaws
 pub mod EntryLaws
 pub mod RuleLaws
 pub mod SoundLaws

@@ -8,10 +8,15 @@ use native.Mathlib.Omega.{arith}
 use borrow.Author.Tests.{lt-ltb, le-ltb, eq-eqb, ne-eqb, ltb-true, leb-true}
 use Rattle.records.proofs.TestLaws.{false-true}
 use Rattle.records.specs.declared.Parameters.{Parameters}
+use Rattle.account.specs.declared.Server.{Server}
+use Rattle.account.specs.declared.Pending.{Pending}
 use Rattle.account.specs.declared.Account.{Account}
 use Rattle.account.specs.declared.Place.the-variants.{Stays, Low, LowThenUpper, Upper}
 use Rattle.account.specs.Account.{isUpper}
-use Rattle.account.specs.Rules.{dueNow, atOnce, madePending, scheduled, activated, outcome, limitReached, waking, firstIsDue, firstBack, allBack, returning}
+use Rattle.account.specs.Rules.{dueNow, atOnce, madePending, scheduled, activated, outcome, limitReached, waking, firstIsDue, firstBack, allBack, raised, returning}
+
+abbrev pub made : Server → Pending → Account
+made s q = record { server = s; pending = q }
 
 module _ (now : ℕ) (p : Parameters) (a : Account) where
   pub scheduled-none : a .server .used ≡ 0 → scheduled now p a ≡ a
@@ -84,6 +89,10 @@ module _ (now : ℕ) (p : Parameters) (a : Account) where
     pub return-none : firstIsDue now (a .pending) ≡ false → returning now b p a ≡ outcome a Stays
     unfolding returning
     return-none e = simp e
+
+    pub return-some : firstIsDue now (a .pending) ≡ true → returning now b p a ≡ raised now b (isUpper p a) (allBack (a .pending .count) now p a)
+    unfolding returning
+    return-some e = simp e
 
     pub return-blocked : firstIsDue now (a .pending) ≡ true → b ≡ true → returning now b p a ≡ outcome (allBack (a .pending .count) now p a) Stays
     unfolding returning

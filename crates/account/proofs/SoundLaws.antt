@@ -356,20 +356,24 @@ module _ (start now lo : ℕ) (up : Bool) (p : Parameters) (a : Account) (h : Ac
           let s = pop-sum n (a .pending .amounts) ls (rw z at (h .sums .1)) in
           upper-yes p (firstBack p a) (omega (arith, s .1)) (omega (tests, h .numbers))
 
--- in a sound account no two dues fall on one instant, so one replenishment is all that comes back
-pub back-once : (start now lo : ℕ) (up : Bool) (p : Parameters) (a : Account) → AccountSound start now lo up p a → now ≤ lo + 1
-    → firstIsDue now (a .pending) ≡ true → allBack (a .pending .count) now p a ≡ firstBack p a
-back-once start now lo up p a h l e =
+-- in a sound account no two dues fall on one instant
+pub none-more : (start now lo : ℕ) (up : Bool) (p : Parameters) (a : Account) → AccountSound start now lo up p a → now ≤ lo + 1
+    → firstIsDue now (a .pending) ≡ true → firstIsDue now (withoutFirst (a .pending)) ≡ false
+none-more start now lo up p a h l e =
     let b = back-sound start now lo up p a h e l in
-    sym (back-one now p a e)
-    ∙ back-done now p (firstBack p a) (firstBack p a .pending .count)
-    (later (a .pending .count - 1) (shifted (a .pending .dues)) (omega (tests, b .numbers, b .duePlaces .0)) (b .times))
+    later (a .pending .count - 1) (shifted (a .pending .dues)) (omega (tests, b .numbers, b .duePlaces .0)) (b .times)
   where
     later : (n : ℕ) (ds : List ℕ) → n ≤ length ds → All (dueTests now (dueEnd now up p (firstBack p a .server)) (take n ds))
         → (ltb 0 n && leb (getD ds 0 0) now) ≡ false
     later zero ds g t = refl
     later (suc n) [] g t = absurd (omega arith)
     later (suc n) (d ∷ ds) g t = simp (lt-ltb 0 (suc n) (omega arith), lt-leb d now (omega (tests, t .0)))
+
+-- so one replenishment is all that comes back
+pub back-once : (start now lo : ℕ) (up : Bool) (p : Parameters) (a : Account) → AccountSound start now lo up p a → now ≤ lo + 1
+    → firstIsDue now (a .pending) ≡ true → allBack (a .pending .count) now p a ≡ firstBack p a
+back-once start now lo up p a h l e =
+    sym (back-one now p a e) ∙ back-done now p (firstBack p a) (firstBack p a .pending .count) (none-more start now lo up p a h l e)
 
 -- what the return of what is due leaves, and where it sends the thread
 pub data Returned (start now : ℕ) (blocked : Bool) (p : Parameters) (a : Account) (o : Outcome) : Type 0 where

@@ -11,7 +11,8 @@ use Rattle.account.specs.declared.Account.{Account}
 use Rattle.account.specs.declared.Place.{Place}
 use Rattle.account.specs.declared.Place.the-variants.{Stays, Low, LowThenUpper, Upper}
 use Rattle.account.specs.declared.Outcome.{Outcome}
-use Rattle.account.specs.Account.{isUpper}
+use Rattle.account.specs.declared.Effect.{Effect}
+use Rattle.account.specs.Account.{atUpper, isUpper}
 
 -- Passing 3: k ticks at the upper priority are moved from capacity to U
 abbrev pub charged : ℕ → Server → Server
@@ -42,6 +43,10 @@ abbrev pub withEntry : ℕ → ℕ → Pending → Pending
 withEntry due amount q =
     record { count = q .count + 1; dues = set (q .dues) (q .count) due; amounts = set (q .amounts) (q .count) amount }
 
+-- Passing 10: an amount becomes pending; 0 adds nothing
+abbrev pub withAdded : ℕ → ℕ → Pending → Pending
+withAdded due amount q = cond (eqb amount 0) q (withEntry due amount q)
+
 -- the first pending replenishment is gone, and the others move up
 abbrev pub shifted : List ℕ → List ℕ
 shifted xs = drop 1 xs ++ 0 ∷ []
@@ -63,12 +68,11 @@ unfoldable pub scheduled : ℕ → Parameters → Account → Account
 scheduled now p a = cond (eqb (a .server .used) 0) a (cond (dueNow now p (a .server)) (atOnce p a) (madePending p a))
 
 -- Passing 14: the activation time becomes now
+abbrev pub activatedServer : ℕ → Server → Server
+activatedServer now s = record { capacity = s .capacity; used = s .used; activation = now }
+
 abbrev pub activated : ℕ → Account → Account
-activated now a =
-    record {
-      server = record { capacity = a .server .capacity; used = a .server .used; activation = now };
-      pending = a .pending;
-    }
+activated now a = record { server = activatedServer now (a .server); pending = a .pending }
 
 abbrev pub outcome : Account → Place → Outcome
 outcome a x = record { account = a; place = x }
@@ -107,13 +111,40 @@ unfoldable pub allBack : ℕ → ℕ → Parameters → Account → Account
 allBack zero now p a = a
 allBack (suc k) now p a = cond (firstIsDue now (a .pending)) (allBack k now p (firstBack p a)) a
 
--- Passing 14 and 15: with something back, a runnable thread that was at low goes to upper with activation now; any other stays
+-- Passing 14 and 15: something came back and left the account a: a runnable thread that was at low (`up` is false) goes to upper
+-- with activation now; any other stays
+abbrev pub raised : ℕ → Bool → Bool → Account → Outcome
+raised now blocked up a = cond blocked (outcome a Stays) (cond up (outcome a Stays) (outcome (activated now a) Upper))
+
+-- Passing 8 and 13 to 15: what is due comes back
 unfoldable pub returning : ℕ → Bool → Parameters → Account → Outcome
 returning now blocked p a =
-    cond (firstIsDue now (a .pending))
-    (cond blocked
-    (outcome (allBack (a .pending .count) now p a) Stays)
-    (cond (isUpper p a)
-    (outcome (allBack (a .pending .count) now p a) Stays)
-    (outcome (activated now (allBack (a .pending .count) now p a)) Upper)))
-    (outcome a Stays)
+    cond (firstIsDue now (a .pending)) (raised now blocked (isUpper p a) (allBack (a .pending .count) now p a)) (outcome a Stays)
+
+-- The same rules without the entries: what each does whatever is pending (`Effect`). That they are the same is proved
+-- (proofs/EffectLaws).
+abbrev pub effect : Server → Place → ℕ → ℕ → Effect
+effect s x due amount = record { server = s; place = x; due = due; amount = amount }
+
+-- Passing 9 to 11: scheduling U
+unfoldable pub scheduleEffect : ℕ → Parameters → Server → Effect
+scheduleEffect now p s =
+    cond (eqb (s .used) 0) (effect s Stays 0 0)
+    (cond (dueNow now p s) (effect (replenished (s .used) p (cleared s)) Stays 0 0) (effect (cleared s) Stays (dueOf p s) (s .used)))
+
+-- Passing 6 and 14: the limit of a runnable thread, with what scheduling U does
+abbrev pub limitOn : ℕ → Parameters → Server → Effect → Effect
+limitOn now p s e =
+    cond (ltb 0 (s .used) && dueNow now p s) (effect (activatedServer now (e .server)) LowThenUpper (e .due) (e .amount))
+    (effect (e .server) Low (e .due) (e .amount))
+
+unfoldable pub limitEffect : ℕ → Parameters → Server → Effect
+limitEffect now p s = limitOn now p s (scheduleEffect now p s)
+
+-- Passing 14 and 15: something came back and left the server s
+abbrev pub raiseEffect : ℕ → Bool → Bool → Server → Effect
+raiseEffect now blocked up s = cond blocked (effect s Stays 0 0) (cond up (effect s Stays 0 0) (effect (activatedServer now s) Upper 0 0))
+
+-- Passing 13 to 15: the first of `count` entries, of this amount, comes back
+unfoldable pub returnEffect : ℕ → Bool → Parameters → ℕ → ℕ → Server → Effect
+returnEffect now blocked p count amount s = raiseEffect now blocked (atUpper p (s .capacity) count) (replenished amount p s)

@@ -25,7 +25,7 @@ fn wide(x: u8) -> usize
 }
 
 // Each number one place up; the last place is 0.
-fn shift(xs: [u64; ENTRIES]) -> [u64; ENTRIES]
+pub fn shift(xs: [u64; ENTRIES]) -> [u64; ENTRIES]
     ensures { λ r. ⌜ r ≡ shifted xs ⌝ }
 {
     let mut r = xs;

@@ -7,7 +7,9 @@ ghost use Rattle.account.specs.Rules.{
   heldAt,
   replenished,
   dueNow,
+  withAdded,
   scheduled,
+  activatedServer,
   activated,
   limitReached,
   blocking,
@@ -16,7 +18,12 @@ ghost use Rattle.account.specs.Rules.{
   firstBack,
   allBack,
   returning,
+  scheduleEffect,
+  limitEffect,
+  raiseEffect,
+  returnEffect,
 };
+pub use entries::shift;
 use records::Parameters;
 
 mod entries; // entries.rt: an entry comes, and the first one goes
@@ -56,6 +63,15 @@ pub enum Place {
 pub struct Outcome {
     pub account: Account,
     pub place: Place,
+}
+
+// What a rule does beside the entries that were there: the server, where the thread goes, and the amount that becomes
+// pending, 0 for none, with its due time.
+pub struct Effect {
+    pub server: Server,
+    pub place: Place,
+    pub due: u64,
+    pub amount: u64,
 }
 
 // The account that opening and a set give.
@@ -142,15 +158,18 @@ fn due_by(p: Parameters, s: Server, now: u64) -> bool
     p.period <= now - s.activation
 }
 
-// U is scheduled: nothing where it is 0, at once where it is due by now, else pending.
-pub fn schedule(p: Parameters, a: Account, now: u64) -> Account
-    requires { ⌜ (a .server .activation + p .period < 2 ^ 64) × (0 < a .server .used → a .pending .count < 8) ⌝ }
-    ensures { λ r. ⌜ r ≡ scheduled now p a ⌝ }
+// U is scheduled, whatever is pending: nothing where it is 0, at once where it is due by now, else one entry more.
+fn schedule_effect(p: Parameters, s: Server, now: u64) -> Effect
+    requires { ⌜ s .activation + p .period < 2 ^ 64 ⌝ }
+    ensures { λ r. ⌜ r ≡ scheduleEffect now p s ⌝ }
 {
-    let s = a.server;
-    let q = a.pending;
     if s.used == 0 {
-        return a;
+        return Effect {
+            server: s,
+            place: Place::Stays,
+            due: 0,
+            amount: 0,
+        };
     }
     let cleared = Server {
         capacity: s.capacity,
@@ -159,35 +178,102 @@ pub fn schedule(p: Parameters, a: Account, now: u64) -> Account
     };
     if due_by(p, s, now) {
         let back = replenish(p, cleared, s.used);
-        return Account {
+        return Effect {
             server: back,
-            pending: q,
+            place: Place::Stays,
+            due: 0,
+            amount: 0,
         };
     }
-    let more = entries::push(q, s.activation + p.period, s.used);
-    Account {
+    Effect {
         server: cleared,
-        pending: more,
+        place: Place::Stays,
+        due: s.activation + p.period,
+        amount: s.used,
     }
 }
 
-// The account with activation time now.
+// An amount becomes pending; 0 adds nothing.
+fn add(q: Pending, due: u64, amount: u64) -> Pending
+    requires { ⌜ (0 < amount → q .count < 8) ⌝ }
+    ensures { λ r. ⌜ r ≡ withAdded due amount q ⌝ }
+{
+    if amount == 0 {
+        return q;
+    }
+    entries::push(q, due, amount)
+}
+
+// U is scheduled.
+pub fn schedule(p: Parameters, a: Account, now: u64) -> Account
+    requires { ⌜ (a .server .activation + p .period < 2 ^ 64) × (0 < a .server .used → a .pending .count < 8) ⌝ }
+    ensures { λ r. ⌜ r ≡ scheduled now p a ⌝ }
+{
+    let s = a.server;
+    let q = a.pending;
+    let e = schedule_effect(p, s, now);
+    let server = e.server;
+    Account {
+        server: server,
+        pending: add(q, e.due, e.amount),
+    }
+}
+
+// A server with activation time now, and an account with it.
+fn activate_server(s: Server, now: u64) -> Server
+    ensures { λ r. ⌜ r ≡ activatedServer now s ⌝ }
+{
+    Server {
+        capacity: s.capacity,
+        used: s.used,
+        activation: now,
+    }
+}
+
 fn activate(a: Account, now: u64) -> Account
     ensures { λ r. ⌜ r ≡ activated now a ⌝ }
 {
+    let s = a.server;
     let q = a.pending;
     Account {
-        server: Server {
-            capacity: a.server.capacity,
-            used: a.server.used,
-            activation: now,
-        },
+        server: activate_server(s, now),
         pending: q,
     }
 }
 
-// The limit is reached: U is scheduled, and the thread goes to low, or on to upper where U came back at once. Nothing where
-// the thread is blocked.
+// A runnable thread reaches its limit, whatever is pending: U is scheduled, and the thread goes to low, or on to upper where
+// U came back at once.
+pub fn limit_effect(p: Parameters, s: Server, now: u64) -> Effect
+    requires { ⌜ s .activation + p .period < 2 ^ 64 ⌝ }
+    ensures { λ r. ⌜ r ≡ limitEffect now p s ⌝ }
+{
+    let e = schedule_effect(p, s, now);
+    let server = e.server;
+    if s.used == 0 {
+        return Effect {
+            server: server,
+            place: Place::Low,
+            due: e.due,
+            amount: e.amount,
+        };
+    }
+    if due_by(p, s, now) {
+        return Effect {
+            server: activate_server(server, now),
+            place: Place::LowThenUpper,
+            due: e.due,
+            amount: e.amount,
+        };
+    }
+    Effect {
+        server: server,
+        place: Place::Low,
+        due: e.due,
+        amount: e.amount,
+    }
+}
+
+// The limit is reached. Nothing where the thread is blocked.
 pub fn limit_reached(p: Parameters, a: Account, blocked: bool, now: u64) -> Outcome
     requires { ⌜ (a .server .activation + p .period < 2 ^ 64) × (0 < a .server .used → a .pending .count < 8) ⌝ }
     ensures { λ r. ⌜ r ≡ limitReached now blocked p a ⌝ }
@@ -199,23 +285,17 @@ pub fn limit_reached(p: Parameters, a: Account, blocked: bool, now: u64) -> Outc
         };
     }
     let s = a.server;
-    let b = schedule(p, a, now);
-    if s.used == 0 {
-        return Outcome {
-            account: b,
-            place: Place::Low,
-        };
-    }
-    if due_by(p, s, now) {
-        let up = activate(b, now);
-        return Outcome {
-            account: up,
-            place: Place::LowThenUpper,
-        };
-    }
+    let q = a.pending;
+    let e = limit_effect(p, s, now);
+    let server = e.server;
+    let place = e.place;
+    let pending = add(q, e.due, e.amount);
     Outcome {
-        account: b,
-        place: Place::Low,
+        account: Account {
+            server: server,
+            pending: pending,
+        },
+        place: place,
     }
 }
 
@@ -298,31 +378,67 @@ fn all_back(p: Parameters, a: Account, now: u64) -> Account
     }
 }
 
+// Something came back, and the server is now s: a runnable thread that was at low goes to upper.
+fn raise(up: bool, s: Server, blocked: bool, now: u64) -> Effect
+    ensures { λ r. ⌜ r ≡ raiseEffect now blocked up s ⌝ }
+{
+    if blocked {
+        return Effect {
+            server: s,
+            place: Place::Stays,
+            due: 0,
+            amount: 0,
+        };
+    }
+    if up {
+        return Effect {
+            server: s,
+            place: Place::Stays,
+            due: 0,
+            amount: 0,
+        };
+    }
+    Effect {
+        server: activate_server(s, now),
+        place: Place::Upper,
+        due: 0,
+        amount: 0,
+    }
+}
+
+// The first of `count` pending replenishments comes back, where no other is due: as `return_due`, without the entries.
+pub fn return_first(
+    p: Parameters,
+    s: Server,
+    count: u8,
+    amount: u64,
+    blocked: bool,
+    now: u64,
+) -> Effect
+    ensures { λ r. ⌜ r ≡ returnEffect now blocked p count amount s ⌝ }
+{
+    let back = replenish(p, s, amount);
+    raise(at_upper(p, s.capacity, count), back, blocked, now)
+}
+
 // What is due comes back; a runnable thread that was at low goes to upper.
 pub fn return_due(p: Parameters, a: Account, blocked: bool, now: u64) -> Outcome
     ensures { λ r. ⌜ r ≡ returning now blocked p a ⌝ }
 {
     let q = a.pending;
     if first_is_due(q, now) {
-        // one for certain, and rarely more: the loop is left at once
-        let first = first_back(p, a);
-        let b = all_back(p, first, now);
-        if blocked {
-            return Outcome {
-                account: b,
-                place: Place::Stays,
-            };
-        }
-        if at_upper(p, a.server.capacity, q.count) {
-            return Outcome {
-                account: b,
-                place: Place::Stays,
-            };
-        }
-        let c = activate(b, now);
+        let b = all_back(p, a, now);
+        let back = b.server;
+        let pending = b.pending;
+        let e = raise(at_upper(p, a.server.capacity, q.count), back, blocked, now);
+        let server = e.server;
+        let place = e.place;
         return Outcome {
-            account: c,
-            place: Place::Upper,
+            account: Account {
+                server: server,
+                pending: pending,
+            },
+            place: place,
         };
     }
     Outcome {

@@ -1,16 +1,19 @@
 -- The turns of `advance`, over what each of its steps gives.
 use Prim.Native.Nat.{ℕ, _+_, _-_, _*_, _≤_, _<_, _^_}
 use mathlib.Core.Bool.{Bool, true, false, cond}
-use mathlib.Core.Path.{_≡_, refl, sym, ap, ap₂, _∙_, subst⁻¹}
+use mathlib.Core.Path.{_≡_, refl, sym, ap, ap₂, _∙_, subst, subst₂, subst⁻¹}
 use mathlib.Core.List.{List}
 use lib.ListN.{getD, set}
+use lib.Seq.{set-set}
 use lib.Dec.{eqb}
 use native.Mathlib.Omega.{arith}
 use borrow.Author.Tests.{eqb-true, eqb-false, lt-ltb, le-leb}
 use Rattle.records.proofs.TestLaws.{tests, cond-true, cond-false}
 use Rattle.account.specs.declared.Pending.{Pending}
 use Rattle.account.specs.declared.Outcome.{Outcome}
-use Rattle.account.specs.Rules.{limitReached, firstIsDue, returning}
+use Rattle.account.specs.declared.Effect.{Effect}
+use Rattle.account.specs.Rules.{withEntry, withAdded, withoutFirst, outcome, limitReached, firstIsDue, returning, limitEffect, returnEffect}
+use Rattle.account.proofs.EffectLaws.{OneDue, limit-amount, limit-is, return-is}
 use Rattle.ready.specs.Lists.{moved}
 use Rattle.ready.specs.Word.{occupancy}
 use Rattle.ready.specs.Rules.{Movable}
@@ -22,14 +25,14 @@ use Rattle.state.specs.State.{threadAt, rowAt, withRow, pendingAt, accountAt}
 use Rattle.state.proofs.SoundLaws.{row-length}
 use Rattle.ticks.specs.declared.Due.{Due}
 use Rattle.ticks.specs.Running.{level, head, ran, charge, limit, nextDue, next}
-use Rattle.moments.specs.Changes.{withServer, withLeft, sentTo, withOutcome}
+use Rattle.moments.specs.Changes.{withServer, withLeft, sentTo, entriesAfter, withOutcome}
 use Rattle.moments.specs.Moments.{quantumEnded, limits, passed}
 use Rattle.moments.proofs.DueLaws.{found, row-first, earlier-left}
 use Rattle.moments.proofs.InsertLaws.{afterLimit, after-limit-is, limit-entries}
 use Rattle.moments.proofs.ChargeLaws.{limit-later}
-use Rattle.moments.proofs.TurnLaws.{firstOf, Going, weight, turn-rest, turn-limit, due-some, not-past, charged-going, due-now, turn-due}
+use Rattle.moments.proofs.TurnLaws.{firstOf, first-later, Going, weight, turn-rest, turn-limit, due-some, not-past, charged-going, due-now, turn-due}
 use Rattle.moments.proofs.SeenLaws.{Seen, seen-head, seen-at, seen-small, seen-limit, seen-next, charge-fits, charge-place}
-use Rattle.moments.proofs.StepLaws.{Sendable, limit-not-upper, limit-runs, limit-thread, quantum-movable, quantum-is, limited-present, limited-is, limited-requires, limited-sendable, due-sendable, due-is}
+use Rattle.moments.proofs.StepLaws.{Sendable, limit-not-upper, limit-runs, limit-thread, quantum-movable, quantum-is, limited-present, limited-is, limited-requires, limited-sendable, due-sendable, due-is, due-one}
 
 -- ticks charged in place: the time, the idle time, and thread i
 abbrev pub withTicks : ℕ → ℕ → ℕ → Thread → State → State
@@ -46,17 +49,31 @@ withTicks i now idle w s =
       lists = s .lists;
     }
 
+-- the entries after a limit: one more where the amount is not 0
+added-is : (due amount : ℕ) (q : Pending) → withAdded due amount q ≡ entriesAfter true due amount q
+added-is due amount q = go (eqb amount 0)
+  where
+    go : (z : Bool) → cond z q (withEntry due amount q) ≡ record {
+      count = cond z (q .count) (q .count + 1);
+      dues = cond z (q .dues) (set (q .dues) (q .count) due);
+      amounts = cond z (q .amounts) (set (q .amounts) (q .count) amount);
+    }
+    go true = refl
+    go false = refl
+
 -- an outcome put in place: what the writes leave
 pub record Put (u : State) (j : ℕ) (o : Outcome) : Type 0 where
   pub number : ℕ
   pub word : ℕ
   pub thread : Thread
+  pub count : ℕ
   pub dues : List ℕ
   pub amounts : List ℕ
   pub lists : List ℕ
   pub number-is : number ≡ j
   pub word-is : word ≡ occupancy (sentTo (o .place) number (threadAt u j .parameters) (u .lists))
   pub thread-is : thread ≡ withServer (o .account .server) (threadAt u j)
+  pub count-is : count ≡ o .account .pending .count
   pub dues-is : dues ≡ withRow j (o .account .pending .dues) (u .dues)
   pub amounts-is : amounts ≡ withRow j (o .account .pending .amounts) (u .amounts)
   pub lists-is : lists ≡ sentTo (o .place) number (threadAt u j .parameters) (u .lists)
@@ -69,7 +86,7 @@ putState u j o p =
       idle = u .idle;
       word = p .word;
       threads = set (u .threads) j (p .thread);
-      counts = set (u .counts) j (o .account .pending .count);
+      counts = set (u .counts) j (p .count);
       dues = p .dues;
       amounts = p .amounts;
       lists = p .lists;
@@ -83,7 +100,7 @@ put-is u j o p =
       idle = u .idle;
       word = (p .word-is ∙ ap (λ (k : ℕ). occupancy (sentTo (o .place) k (threadAt u j .parameters) (u .lists))) (p .number-is)) y;
       threads = set (u .threads) j (p .thread-is y);
-      counts = set (u .counts) j (o .account .pending .count);
+      counts = set (u .counts) j (p .count-is y);
       dues = p .dues-is y;
       amounts = p .amounts-is y;
       lists = (p .lists-is ∙ ap (λ (k : ℕ). sentTo (o .place) k (threadAt u j .parameters) (u .lists)) (p .number-is)) y;
@@ -139,6 +156,12 @@ put-going r u j o p a = subst⁻¹ (Going (r .origin) (r .to)) (put-is u j o p) 
 
 pub put-falls : (r : Turn) (u : State) (j : ℕ) (o : Outcome) (p : Put u j o) → Acted r u j o → weight (r .to) (putState u j o p) < weight (r .to) (r .state)
 put-falls r u j o p a = subst⁻¹ (λ (y : State). weight (r .to) y < weight (r .to) (r .state)) (put-is u j o p) (a .falls)
+
+-- no due is before now then
+pub put-later : (r : Turn) (u : State) (j : ℕ) (o : Outcome) (p : Put u j o) → Acted r u j o
+    → (i : ℕ) → i < 32 → 0 < getD (set (u .counts) j (p .count)) i 0 → u .now ≤ getD (p .dues) (i * 8) 0
+put-later r u j o p a i l c =
+    omega (arith, row-first i (p .dues), first-later (λ i. u .now - 1) (putState u j o p) (put-going r u j o p a .mid) i l c)
 
 module _ (r : Turn) where
   abbrev s₀ : State
@@ -315,7 +338,7 @@ module _ (r : Turn) where
               now = m;
               idle = idle;
               word = o;
-              threads = set (set (s .threads) i w) i f;
+              threads = set (s .threads) i f;
               counts = s .counts;
               dues = s .dues;
               amounts = s .amounts;
@@ -337,7 +360,7 @@ module _ (r : Turn) where
                   now = m;
                   idle = idle;
                   word = (fo ∙ ap (λ (k : ℕ). occupancy (moved k p p (s .lists))) (sym (v .at))) y;
-                  threads = set (set (s .threads) i w) i (ff y);
+                  threads = (sym (set-set (s .threads) i w f) ∙ ap (set (set (s .threads) i w) i) ff) y;
                   counts = s .counts;
                   dues = s .dues;
                   amounts = s .amounts;
@@ -387,13 +410,42 @@ module _ (r : Turn) where
           go false q = omega (arith, first-small q, j-due q)
 
       -- what the rule of the limit requires
-      pub limit-requires : (a : Pending) → a ≡ pendingAt u j → eqb m l ≡ true
-          → (threadAt u j .server .activation + threadAt u j .parameters .period < 2 ^ 64) × (0 < threadAt u j .server .used → a .count < 8)
-      limit-requires a e q =
-          subst⁻¹ (λ (y : Pending). (threadAt u j .server .activation + threadAt u j .parameters .period < 2 ^ 64) × (0 < threadAt u j .server .used → y .count < 8)) e
-          (subst⁻¹ (λ (y : State). (threadAt y j .server .activation + threadAt y j .parameters .period < 2 ^ 64) × (0 < threadAt y j .server .used → pendingAt y j .count < 8)) charged-is
+      pub limit-requires : eqb m l ≡ true
+          → (threadAt u j .server .activation + threadAt u j .parameters .period < 2 ^ 64) × (0 < threadAt u j .server .used → getD (s .counts) j 0 < 8)
+      limit-requires q =
+          subst⁻¹ (λ (y : State). (threadAt y j .server .activation + threadAt y j .parameters .period < 2 ^ 64) × (0 < threadAt y j .server .used → pendingAt y j .count < 8)) charged-is
           (subst⁻¹ (λ (n : ℕ). (threadAt c n .server .activation + threadAt c n .parameters .period < 2 ^ 64) × (0 < threadAt c n .server .used → pendingAt c n .count < 8)) (j-head q)
-          (limited-requires (λ i. s .now - 1) s (g .mid) (some b) (limited q) (later b) (not-rr q))))
+          (limited-requires (λ i. s .now - 1) s (g .mid) (some b) (limited q) (later b) (not-rr q)))
+
+      -- the first due, where the moment is no limit
+      module _ (q : eqb m l ≡ false) where
+        here : (firstOf s .thread < s .header .n) × (0 < getD (s .counts) (firstOf s .thread) 0) × (firstOf s .due ≡ getD (s .dues) (firstOf s .thread * 8) 0)
+        here = found (s .counts) (s .dues) (s .header .n) (omega (tests, g .mid .sizes)) .some (due-some s₀ s t g (some b) (by b) top (unlimited q))
+
+        goes : Going s₀ t c
+        goes = charged-going s₀ s t g (some b) (by b) top (unlimited q)
+
+        is-due : firstIsDue (c .now) (pendingAt c (firstOf s .thread)) ≡ true
+        is-due =
+            rw (lt-ltb 0 (getD (s .counts) (firstOf s .thread) 0) (here .1))
+            (le-leb (getD (rowAt (firstOf s .thread) (s .dues)) 0 0) (s .now + (next s - s .now))
+            (omega (arith, row-first (firstOf s .thread) (s .dues), here .2, due-now s₀ s t g (some b) (by b) top (unlimited q))))
+
+        -- thread n's first entry is due, and no other of its entries
+        abbrev One : State → ℕ → Type 0
+        One y n = (0 < getD (y .counts) n 0) × (firstIsDue (y .now) (pendingAt y n) ≡ true) × (firstIsDue (y .now) (withoutFirst (pendingAt y n)) ≡ false)
+
+        one : One u j
+        one =
+            subst⁻¹ (λ (y : State). One y j) charged-is
+            (subst⁻¹ (One c) (j-due q)
+            (here .1, is-due, due-one (λ i. c .now - 1) c (goes .mid) (firstOf s .thread) (first-small q) (here .1) is-due (omega arith)))
+
+        pub some-pending : 0 < getD (s .counts) j 0
+        some-pending = one .0
+
+        one-due : OneDue m (getD (s .counts) j 0) (getD (s .amounts) (j * 8) 0) (pendingAt u j)
+        one-due = record { counted = refl; first = row-first j (s .amounts); due = one .1; others = one .2 }
 
       -- the rule, on the state as it is charged
       abbrev rule : State → ℕ → Outcome
@@ -420,54 +472,69 @@ module _ (r : Turn) where
               }))
           go false q =
               let e = unlimited q in
-              let y = found (s .counts) (s .dues) (s .header .n) (omega (tests, g .mid .sizes)) .some (due-some s₀ s t g (some b) (by b) top e) in
-              let n = charged-going s₀ s t g (some b) (by b) top e in
-              let is = due-is (λ i. c .now - 1) c (n .mid) (firstOf s .thread) (first-small q) (y .1) (due q (y .1) (y .2)) in
+              let is = due-is (λ i. c .now - 1) c (goes q .mid) (firstOf s .thread) (first-small q) (here q .1) (is-due q) in
               subst⁻¹ (λ (n : ℕ). Acted r c n (rule c n)) (j-due q)
               (subst⁻¹ (Acted r c (firstOf s .thread)) (cond-false (eqb m l) _ _ q)
               (record {
-                sendable = due-sendable (λ i. c .now - 1) c (n .mid) (firstOf s .thread) (first-small q) (y .1);
+                sendable = due-sendable (λ i. c .now - 1) c (goes q .mid) (firstOf s .thread) (first-small q) (here q .1);
                 going = subst⁻¹ (Going s₀ t) is (turn-due s₀ s t g (some b) (by b) top e .0);
                 falls = subst⁻¹ (λ (y : State). weight t y < weight t s) is (turn-due s₀ s t g (some b) (by b) top e .1);
               }))
-            where
-              due : eqb m l ≡ false → 0 < getD (s .counts) (firstOf s .thread) 0 → firstOf s .due ≡ getD (s .dues) (firstOf s .thread * 8) 0
-                  → firstIsDue (c .now) (pendingAt c (firstOf s .thread)) ≡ true
-              due q n f =
-                  rw (lt-ltb 0 (getD (s .counts) (firstOf s .thread) 0) n)
-                  (le-leb (getD (rowAt (firstOf s .thread) (s .dues)) 0 0) (s .now + (next s - s .now)) (omega (arith, row-first (firstOf s .thread) (s .dues), f, due-now s₀ s t g (some b) (by b) top (unlimited q))))
 
       -- and on the state in place
-      abbrev pub ruled : Pending → Outcome
+      abbrev pub ruled : Bool → Outcome
       ruled a =
-          cond (eqb m l) (limitReached m false (threadAt u j .parameters) (record { server = threadAt u j .server; pending = a }))
-          (returning m (threadAt u j .blocked) (threadAt u j .parameters) (record { server = threadAt u j .server; pending = a }))
+          cond a (limitReached m false (threadAt u j .parameters) (accountAt u j))
+          (returning m (threadAt u j .blocked) (threadAt u j .parameters) (accountAt u j))
 
-      pub acts : (a : Pending) (o : Outcome) → a ≡ pendingAt u j → o ≡ ruled a → Acted r u j o
-      acts a o e f =
-          subst⁻¹ (Acted r u j) (f ∙ ap ruled e)
-          (subst⁻¹ (λ (y : State). Acted r y j (rule y j)) charged-is on-charged)
+      pub acts : (o : Outcome) → ruled (eqb m l) ≡ o → Acted r u j o
+      acts o f = subst (Acted r u j) f (subst⁻¹ (λ (y : State). Acted r y j (rule y j)) charged-is on-charged)
+
+      -- in parts: its effect, and the entries after that
+      abbrev effectBy : Bool → Effect
+      effectBy a =
+          cond a (limitEffect m (threadAt u j .parameters) (threadAt u j .server))
+          (returnEffect m (threadAt u j .blocked) (threadAt u j .parameters) (getD (s .counts) j 0) (getD (s .amounts) (j * 8) 0) (threadAt u j .server))
+
+      abbrev pub leaves : Bool → Effect → Outcome
+      leaves a e = outcome (record { server = e .server; pending = entriesAfter a (e .due) (e .amount) (pendingAt u j) }) (e .place)
+
+      pub rule-leaves : (a : Bool) → a ≡ eqb m l → (e : Effect) → e ≡ effectBy a → ruled (eqb m l) ≡ leaves a e
+      rule-leaves true f e h =
+          ap ruled (sym f)
+          ∙ limit-is m (threadAt u j .parameters) (threadAt u j .server) (pendingAt u j)
+          ∙ ap (λ (q : Pending). outcome (record { server = effectBy true .server; pending = q }) (effectBy true .place)) (added-is (effectBy true .due) (effectBy true .amount) (pendingAt u j))
+          ∙ ap (leaves true) (sym h)
+      rule-leaves false f e h =
+          ap ruled (sym f)
+          ∙ return-is m (getD (s .counts) j 0) (getD (s .amounts) (j * 8) 0) (threadAt u j .blocked) (threadAt u j .parameters) (threadAt u j .server) (pendingAt u j) (one-due (sym f))
+          ∙ ap (leaves false) (sym h)
+
+      -- a limit that adds an entry has room for it
+      pub room : (a : Bool) → a ≡ eqb m l → (e : Effect) → e ≡ effectBy a → a ≡ true → 0 < e .amount → getD (s .counts) j 0 < 8
+      room a f e h q n =
+          limit-requires (sym f ∙ q) .1
+          (omega (arith, ap (λ (x : Effect). x .amount) (h ∙ cond-true a _ _ q), limit-amount m (threadAt u j .parameters) (threadAt u j .server)))
 
       -- ---- the next due after a limit
 
-      abbrev limited-at : Pending → Outcome
-      limited-at a = limitReached m false (threadAt u j .parameters) (record { server = threadAt u j .server; pending = a })
+      abbrev limited-at : Outcome
+      limited-at = limitReached m false (threadAt u j .parameters) (accountAt u j)
 
-      abbrev Known : Due → Pending → Outcome → Type 0
-      Known y a o =
-          y ≡ afterLimit x j (a .count) (o .account .pending)
-          → y ≡ nextDue (set (s .counts) j (o .account .pending .count)) (withRow j (o .account .pending .dues) (s .dues)) (s .header .n)
+      abbrev Known : Due → ℕ → List ℕ → Type 0
+      Known y count dues = y ≡ afterLimit x j (getD (s .counts) j 0) count (getD dues (j * 8) 0) → y ≡ nextDue (set (s .counts) j count) dues (s .header .n)
 
-      limited-known : eqb m l ≡ true → (y : Due) → Known y (pendingAt u j) (limited-at (pendingAt u j))
+      limited-known : eqb m l ≡ true → (y : Due) → Known y (limited-at .account .pending .count) (withRow j (limited-at .account .pending .dues) (s .dues))
       limited-known q y f =
           let w = limit-entries m (threadAt u j .parameters) (accountAt u j) (row-length j (s .dues) number-small (omega (tests, g .mid .sizes))) in
           after-limit-is (s .counts) (s .dues) (s .header .n) j (omega (tests, g .mid .sizes)) number-small (omega (tests, g .mid .sizes)) (omega (tests, g .mid .sizes))
-          (limited-at (pendingAt u j) .account .pending) (w .0) (λ c. omega (arith, j-head q, here)) (λ c. let z = w .1 c in (z .0, z .1 ∙ row-first j (s .dues))) x y (v .first) f
+          (limited-at .account .pending) (w .0) (λ c. omega (arith, j-head q, here)) (λ c. let z = w .1 c in (z .0, z .1 ∙ row-first j (s .dues))) x y (v .first) f
         where
           here : head s < s .header .n
           here = limited-present (λ i. s .now - 1) s (g .mid) (some b) (limited q) (later b) (not-rr q)
 
-      pub limit-due : (a : Pending) (o : Outcome) → a ≡ pendingAt u j → o ≡ ruled a → eqb m l ≡ true → (p : Put u j o) (y : Due) → y ≡ afterLimit x j (a .count) (o .account .pending) → y ≡ firstOf (putState u j o p)
-      limit-due a o e f q p y w =
-          subst⁻¹ (Known y a) (f ∙ cond-true (eqb m l) _ _ q) (subst⁻¹ (λ (z : Pending). Known y z (limited-at z)) e (limited-known q y)) w
-          ∙ ap (λ (d : List ℕ). nextDue (set (s .counts) j (o .account .pending .count)) d (s .header .n)) (sym (p .dues-is))
+      pub limit-due : (o : Outcome) → ruled (eqb m l) ≡ o → eqb m l ≡ true → (p : Put u j o) (y : Due)
+          → y ≡ afterLimit x j (getD (s .counts) j 0) (p .count) (getD (p .dues) (j * 8) 0) → y ≡ firstOf (putState u j o p)
+      limit-due o f q p y =
+          subst₂ (Known y) (sym (p .count-is)) (sym (p .dues-is))
+          (subst (λ (a : Outcome). Known y (a .account .pending .count) (withRow j (a .account .pending .dues) (s .dues))) (sym (cond-true (eqb m l) _ _ q) ∙ f) (limited-known q y))

@@ -10,7 +10,7 @@ use native.Mathlib.Omega.{arith}
 use native.Mathlib.Decide.{ℕ-discrete}
 use borrow.Author.Tests.{eqb-true, eqb-false, eq-eqb, ne-eqb}
 use Rattle.records.proofs.TestLaws.{tests, All, cond-true, cond-false}
-use Rattle.records.proofs.PartLaws.{replaced, replaced-same, replaced-length, replaced-at, replaced-before, replaced-after}
+use Rattle.records.proofs.PartLaws.{replaced, replaced-length, replaced-at, replaced-before, replaced-after}
 use Rattle.account.specs.declared.Server.{Server}
 use Rattle.account.specs.declared.Pending.{Pending}
 use Rattle.account.specs.declared.Account.{Account}
@@ -21,6 +21,7 @@ use Rattle.state.specs.declared.Thread.{Thread}
 use Rattle.state.specs.declared.State.{State}
 use Rattle.state.specs.State.{noThread, threadAt, rowAt, withRow, pendingAt, accountAt, placeOf, place}
 use Rattle.state.specs.Sound.{totals}
+use Rattle.state.proofs.RowLaws.{row-same}
 use Rattle.state.proofs.SoundLaws.{ThreadSound, SoundFrom, sizeTests}
 use Rattle.moments.specs.Changes.{withThread, withLists, withServer, withAccount}
 
@@ -42,10 +43,6 @@ module _ (i : ℕ) (row xs : List ℕ) (l : i < 32) (n : length xs ≡ 256) (m :
       go : (b : Bool) → ltb j i ≡ b → rowAt j (withRow i row xs) ≡ rowAt j xs
       go true e = replaced-before (i * 8) 8 row xs m (omega arith) (j * 8) 8 (omega (tests, e))
       go false e = replaced-after (i * 8) 8 row xs m (omega arith) (j * 8) 8 (omega (tests, e, d))
-
-pub row-same : (i : ℕ) (xs : List ℕ) → withRow i (rowAt i xs) xs ≡ xs
-unfolding withRow
-row-same i xs = replaced-same (i * 8) 8 xs
 
 -- ---- another thread and account at place i
 

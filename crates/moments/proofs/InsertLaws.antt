@@ -21,12 +21,12 @@ use Rattle.ticks.specs.Running.{sooner, nextDue}
 use Rattle.moments.proofs.ChangeLaws.{row-at, row-other}
 use Rattle.moments.proofs.DueLaws.{Found, found, row-first}
 
--- what `after_limit` answers of a thread's entries
-abbrev pub afterLimit : Due → ℕ → ℕ → Pending → Due
-afterLimit x k before q =
+-- what `after_limit` answers of a thread that had `before` entries and has `after`, the first due at d
+abbrev pub afterLimit : Due → ℕ → ℕ → ℕ → ℕ → Due
+afterLimit x k before after d =
     cond (eqb before 0)
-    (cond (eqb (q .count) 0) x
-    (cond (eqb (getD (q .dues) 0 0) (x .due)) (cond (ltb k (x .thread)) (record { due = getD (q .dues) 0 0; thread = k }) x) (sooner k (getD (q .dues) 0 0) x)))
+    (cond (eqb after 0) x
+    (cond (eqb d (x .due)) (cond (ltb k (x .thread)) (record { due = d; thread = k }) x) (sooner k d x)))
     x
 
 -- only one due and thread is found
@@ -172,9 +172,9 @@ module _ (counts dues : List ℕ) (n k : ℕ) (m : n ≤ 32) (l : k < 32) (lc : 
 
   -- an entry at most added, behind those there: no search
   pub after-limit-is : (x r : Due) → x ≡ nextDue counts dues n
-      → r ≡ afterLimit x k (getD counts k 0) q
+      → r ≡ afterLimit x k (getD counts k 0) (q .count) (getD dues′ (k * 8) 0)
       → r ≡ nextDue counts′ dues′ n
-  after-limit-is x r e g = found-once counts′ dues′ n r (nextDue counts′ dues′ n) (subst⁻¹ (Found counts′ dues′ n) g (go (ℕ-discrete (getD counts k 0) 0) (ℕ-discrete (q .count) 0))) (found counts′ dues′ n m)
+  after-limit-is x r e g = found-once counts′ dues′ n r (nextDue counts′ dues′ n) (subst⁻¹ (Found counts′ dues′ n) (g ∙ ap (afterLimit x k (getD counts k 0) (q .count)) due-here) (go (ℕ-discrete (getD counts k 0) 0) (ℕ-discrete (q .count) 0))) (found counts′ dues′ n m)
     where
       f : Found counts dues n x
       f = subst⁻¹ (Found counts dues n) e (found counts dues n m)
@@ -193,7 +193,7 @@ module _ (counts dues : List ℕ) (n k : ℕ) (m : n ≤ 32) (l : k < 32) (lc : 
           some i c (no p) = let o = others i p in (omega (arith, o .0), o .1)
 
       go : Dec (getD counts k 0 ≡ 0) → Dec (q .count ≡ 0)
-          → Found counts′ dues′ n (afterLimit x k (getD counts k 0) q)
+          → Found counts′ dues′ n (afterLimit x k (getD counts k 0) (q .count) d)
       go (no b) a = rw (ne-eqb (getD counts k 0) 0 b) (same (λ z. absurd (b z)))
       go (yes b) (yes a) = rw (eq-eqb (getD counts k 0) 0 b, eq-eqb (q .count) 0 a) (same (λ z. a))
       go (yes b) (no a) =

@@ -18,9 +18,9 @@ use Rattle.account.specs.declared.Outcome.{Outcome}
 use Rattle.account.specs.declared.Place.{Place}
 use Rattle.account.specs.declared.Place.the-variants.{Stays, Low, LowThenUpper, Upper}
 use Rattle.account.specs.Account.{atUpper, isUpper}
-use Rattle.account.specs.Rules.{charged, dueNow, scheduled, activated, outcome, limitReached, firstIsDue, returning}
+use Rattle.account.specs.Rules.{charged, dueNow, withoutFirst, scheduled, activated, outcome, limitReached, firstIsDue, returning}
 use Rattle.account.specs.Sound.{runsUpper}
-use Rattle.account.proofs.SoundLaws.{AccountSound, upper-room}
+use Rattle.account.proofs.SoundLaws.{AccountSound, upper-room, none-more}
 use Rattle.ready.specs.Lists.{moved}
 use Rattle.ready.specs.Word.{occupancy}
 use Rattle.ready.specs.Rules.{Movable}
@@ -269,3 +269,13 @@ module _ (lo : ℕ → ℕ) (s : State) (a : SoundFrom lo s) (j : ℕ) (l : j < 
       → withOutcome j (returning (s .now) (threadAt s j .blocked) (threadAt s j .parameters) (accountAt s j)) s ≡ replenish j s
   unfolding replenish
   due-is e = sym (cond-true (firstIsDue (s .now) (pendingAt s j)) _ _ e)
+
+  -- it is the only one of its thread
+  pub due-one : firstIsDue (s .now) (pendingAt s j) ≡ true → s .now ≤ lo j + 1 → firstIsDue (s .now) (withoutFirst (pendingAt s j)) ≡ false
+  due-one e f = go (a .each j l)
+    where
+      go : ThreadSound (s .header .start) (s .now) (lo j) (ltb j (s .header .n)) (threadAt s j) (pendingAt s j) → firstIsDue (s .now) (withoutFirst (pendingAt s j)) ≡ false
+      go (absent n t q) = absurd (omega (arith, ap (λ (q : Pending). q .count) q))
+      go (fifo n z g b v q) = absurd (omega (arith, ap (λ (q : Pending). q .count) q))
+      go (rr n z g b v q) = absurd (omega (arith, ap (λ (q : Pending). q .count) q))
+      go (sporadic n z g b v) = none-more (s .header .start) (s .now) (lo j) _ (threadAt s j .parameters) (accountAt s j) v f e

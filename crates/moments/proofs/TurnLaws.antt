@@ -51,7 +51,7 @@ bounds lo lo′ s h d =
       timed = h .timed;
     }
 
-first-later : (lo : ℕ → ℕ) (s : State) → SoundFrom lo s → (i : ℕ) → i < 32 → 0 < getD (s .counts) i 0 → lo i < getD (rowAt i (s .dues)) 0 0
+pub first-later : (lo : ℕ → ℕ) (s : State) → SoundFrom lo s → (i : ℕ) → i < 32 → 0 < getD (s .counts) i 0 → lo i < getD (rowAt i (s .dues)) 0 0
 first-later lo s h i l c = due-after (s .header .start) (s .now) (lo i) (ltb i (s .header .n)) (threadAt s i) (pendingAt s i) (h .each i l) c
 
 pub sound-mid : (s : State) → Sound s → Mid s

@@ -3,18 +3,18 @@ ghost use mathlib.Core.Path.{_≡_};
 ghost use mathlib.Core.Bool.{true, false, cond};
 ghost use Prim.Native.Nat.{_+_, _<_, _≤_, _^_};
 ghost use lib.Dec.{eqb};
-ghost use Rattle.account.specs.Rules.{limitReached, returning};
+ghost use lib.ListN.{length};
+ghost use Rattle.account.specs.Rules.{limitEffect, returnEffect};
 ghost use Rattle.account.specs.declared.Place.the-variants.{Stays, Low, LowThenUpper, Upper};
 ghost use Rattle.ready.specs.Lists.{moved};
 ghost use Rattle.ready.specs.Word.{occupancy};
 ghost use Rattle.ready.specs.Rules.{Movable};
+ghost use Rattle.state.specs.State.{rowAt, withRow};
 ghost use Rattle.state.specs.Sound.{soundState};
 ghost use Rattle.ticks.specs.Running.{earlier};
-ghost use Rattle.moments.specs.Changes.{withServer, withLeft, sentTo};
+ghost use Rattle.moments.specs.Changes.{withServer, withLeft, sentTo, countAfter, rowAfter};
 ghost use Rattle.moments.specs.Moments.{passed};
-use account::Account;
-use account::Outcome;
-use account::Pending;
+use account::Effect;
 use account::Place;
 use account::Server;
 use records::Parameters;
@@ -123,22 +123,46 @@ fn concerned(limited: bool, runs: usize, due: usize) -> usize
     due
 }
 
-// What happens to that thread's account.
-fn outcome_at(limited: bool, time: u64, t: Thread, q: Pending) -> Outcome
-    requires { ⌜ (limited ≡ true → (t .server .activation + t .parameters .period < 2 ^ 64) × (0 < t .server .used → q .count < 8)) ⌝ }
-    ensures { λ r. ⌜ r ≡ cond limited (limitReached time false (t .parameters) (record { server = t .server; pending = q }))
-        (returning time (t .blocked) (t .parameters) (record { server = t .server; pending = q })) ⌝ }
+// What happens to that thread's account: at a limit, or where the first of `count` entries, of this amount, comes back.
+fn effect_at(limited: bool, time: u64, t: Thread, count: u8, amount: u64) -> Effect
+    requires { ⌜ (limited ≡ true → t .server .activation + t .parameters .period < 2 ^ 64) ⌝ }
+    ensures { λ r. ⌜ r ≡ cond limited (limitEffect time (t .parameters) (t .server)) (returnEffect time (t .blocked) (t .parameters) count amount (t .server)) ⌝ }
 {
     let p = t.parameters;
     let v = t.server;
-    let a = Account {
-        server: v,
-        pending: q,
-    };
     if limited {
-        return account::limit_reached(p, a, false, time);
+        return account::limit_effect(p, v, time);
     }
-    account::return_due(p, a, t.blocked, time)
+    account::return_first(p, v, count, amount, t.blocked, time)
+}
+
+// How many entries there are then, of `count`: one more where a limit adds an amount, one less where the first came back.
+fn count_after(limited: bool, amount: u64, count: u8) -> u8
+    requires { ⌜ (limited ≡ true → 0 < amount → count < 8) × (limited ≡ false → 0 < count) ⌝ }
+    ensures { λ r. ⌜ r ≡ countAfter limited amount count ⌝ }
+{
+    if limited {
+        if amount == 0 {
+            return count;
+        }
+        return count + 1;
+    }
+    count - 1
+}
+
+// And thread i's dues or amounts: x is the due time or the amount that a limit adds.
+fn change_row(xs: &mut [u64; 256], i: usize, limited: bool, amount: u64, count: u8, x: u64)
+    requires { ⌜ (i < 32) × (length (now xs) ≡ 256) × (limited ≡ true → 0 < amount → count < 8) ⌝ }
+    ensures { λ _. ⌜ now (xs .exit) ≡ withRow i (rowAfter limited amount count x (rowAt i (now (xs .entry)))) (now (xs .entry)) ⌝ }
+{
+    if limited {
+        if amount == 0 {
+            return;
+        }
+        state::write_place(xs, i, count, x);
+        return;
+    }
+    state::shift_row(xs, i);
 }
 
 // The state at the time t. Each turn charges the ticks up to the next moment and does one thing that happens at it: the
@@ -169,7 +193,6 @@ pub fn advance(s0: State, t: u64) -> State
         }
         let k = m - s.now;
         let after = ticks::charged_thread(p, k, before);
-        s.threads[i] = after;
         s.idle = ticks::charged_idle(p, k, s.idle);
         s.now = m;
         let limited = limit_first(limit, x.due);
@@ -180,29 +203,32 @@ pub fn advance(s0: State, t: u64) -> State
             s.word = ready::move_to_tail(&mut s.lists, word, h, p, p);
             continue;
         }
+        s.threads[i] = after;
         let j = concerned(limited, i, x.thread);
+        let at = j * 8;
         let w = s.threads[j];
-        let q = state::pending_at(&s.counts, &s.dues, &s.amounts, j);
-        let o = outcome_at(limited, m, w, q);
-        let b = o.account;
-        let place = o.place;
-        let served = b.server;
-        let pending = b.pending;
-        let dues = pending.dues;
-        let amounts = pending.amounts;
+        let count = s.counts[j];
+        let first = s.amounts[at];
+        let e = effect_at(limited, m, w, count, first);
+        let place = e.place;
+        let served = e.server;
+        let due = e.due;
+        let amount = e.amount;
         let parameters = w.parameters;
         let word = s.word;
         let number = narrow(j);
         let changed = with_server(w, served);
         s.threads[j] = changed;
         s.word = send(&mut s.lists, word, number, parameters, place);
-        s.counts[j] = pending.count;
-        state::write_row(&mut s.dues, j, dues);
-        state::write_row(&mut s.amounts, j, amounts);
+        let pending = count_after(limited, amount, count);
+        s.counts[j] = pending;
+        change_row(&mut s.dues, j, limited, amount, count, due);
+        change_row(&mut s.amounts, j, limited, amount, count, amount);
         if limited {
-            x = ticks::after_limit(x, j, q.count, pending.count, dues[0]);
+            let d = s.dues[at];
+            x = ticks::after_limit(x, j, count, pending, d);
             continue;
         }
-        x = ticks::next_due(&s.counts, &s.dues, n);
+        x = ticks::next_due_from(&s.counts, &s.dues, n, m);
     }
 }

@@ -1,11 +1,12 @@
 -- A thread's places, read and written one by one.
-use Prim.Native.Nat.{ℕ, _+_, _*_, _<_}
+use Prim.Native.Nat.{ℕ, _+_, _*_, _≤_, _<_}
 use mathlib.Core.Path.{_≡_, sym, ap, _∙_}
 use mathlib.Core.List.{List, _++_, append-assoc, append-nil}
 use lib.ListN.{length, take, drop, getD, set, replicate, length-drop}
-use lib.Seq.{paste, paste-suc, take-all, getD-take, getD-drop, length-take-le}
+use lib.Seq.{paste, paste-suc, take-all, getD-take, getD-drop, take-set-le, take-set-lt, drop-set-lt, drop-set-add, length-take-le}
 use native.Mathlib.Numerals.{add-one}
 use native.Mathlib.Omega.{arith}
+use Rattle.records.proofs.PartLaws.{replaced-same}
 use Rattle.account.specs.declared.Pending.{Pending}
 use Rattle.state.specs.State.{rowAt, withRow}
 
@@ -20,6 +21,20 @@ readTo i xs j = paste (replicate 8 0) 0 (rowAt i xs) j
 -- the first j places are written
 abbrev pub writtenTo : ℕ → List ℕ → List ℕ → ℕ → List ℕ
 writtenTo i row xs j = paste xs (i * 8) row j
+
+-- the same numbers again
+pub row-same : (i : ℕ) (xs : List ℕ) → withRow i (rowAt i xs) xs ≡ xs
+unfolding withRow
+row-same i xs = replaced-same (i * 8) 8 xs
+
+-- a store at place k
+pub row-set : (i k x : ℕ) (xs : List ℕ) → k < 8 → set xs (i * 8 + k) x ≡ withRow i (set (rowAt i xs) k x) xs
+unfolding withRow
+row-set i k x xs l =
+    let n : i * 8 ≤ i * 8 + k = omega arith in
+    let m : i * 8 + k < i * 8 + 8 = omega arith in
+    sym (row-same i (set xs (i * 8 + k) x))
+    ∙ rw (drop-set-add (i * 8) xs k x, take-set-lt 8 (drop (i * 8) xs) k x l, take-set-le (i * 8) xs (i * 8 + k) x n, drop-set-lt (i * 8 + 8) xs (i * 8 + k) x m)
 
 module _ (i : ℕ) (xs : List ℕ) (h : i < 32) (n : length xs ≡ 256) where
   pub row-length : length (rowAt i xs) ≡ 8

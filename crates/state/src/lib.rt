@@ -1,7 +1,8 @@
 // The executive's state, by value, and when it is sound.
 ghost use mathlib.Core.Path.{_≡_};
 ghost use Prim.Native.Nat.{_<_};
-ghost use lib.ListN.{length, getD};
+ghost use lib.ListN.{length, getD, set};
+ghost use Rattle.account.specs.Rules.{shifted};
 ghost use Rattle.state.specs.State.{rowAt, withRow, placeOf};
 ghost use Rattle.state.specs.Sound.{soundState};
 use account::Pending;
@@ -63,6 +64,25 @@ pub fn write_row(xs: &mut [u64; 256], i: usize, row: [u64; 8])
         xs[at + j] = row[j];
         j = j + 1;
     }
+}
+
+// x in thread i's place k.
+pub fn write_place(xs: &mut [u64; 256], i: usize, k: u8, x: u64)
+    requires { ⌜ (i < 32) × (k < 8) × (length (now xs) ≡ 256) ⌝ }
+    ensures { λ _. ⌜ now (xs .exit) ≡ withRow i (set (rowAt i (now (xs .entry))) k x) (now (xs .entry)) ⌝ }
+{
+    let place = k as usize;
+    xs[i * 8 + place] = x;
+}
+
+// Thread i's places, each number one place up; the last place is 0.
+pub fn shift_row(xs: &mut [u64; 256], i: usize)
+    requires { ⌜ (i < 32) × (length (now xs) ≡ 256) ⌝ }
+    ensures { λ _. ⌜ now (xs .exit) ≡ withRow i (shifted (rowAt i (now (xs .entry)))) (now (xs .entry)) ⌝ }
+{
+    let row = read_row(xs, i);
+    let up = account::shift(row);
+    write_row(xs, i, up);
 }
 
 // Thread i's pending replenishments.

@@ -1,5 +1,5 @@
 -- Who runs, the next moment, and what so many ticks change.
-use Prim.Native.Nat.{ℕ, zero, suc, _+_, _-_, _*_, min}
+use Prim.Native.Nat.{ℕ, zero, suc, _+_, _-_, _*_, _≤_, _<_, min}
 use mathlib.Core.Bool.{Bool, true, false, cond}
 use mathlib.Core.List.{List}
 use lib.ListN.{getD, set}
@@ -83,6 +83,10 @@ unfoldable pub nextDue : List ℕ → List ℕ → ℕ → Due
 nextDue counts dues zero = record { due = 0; thread = 32 }
 nextDue counts dues (suc n) =
     cond (eqb (getD counts n 0) 0) (nextDue counts dues n) (sooner n (getD dues (n * entries) 0) (nextDue counts dues n))
+
+-- of the threads below n that have a replenishment pending, none has its first due before `earliest`
+abbrev pub NoneBefore : List ℕ → List ℕ → ℕ → ℕ → Type 0
+NoneBefore counts dues n earliest = (i : ℕ) → i < n → 0 < getD counts i 0 → earliest ≤ getD dues (i * entries) 0
 
 -- Passing 2: the next moment, 0 for none
 abbrev pub next : State → ℕ

@@ -7,7 +7,7 @@ ghost use Rattle.ready.specs.Lists.{headOf};
 ghost use Rattle.ready.specs.Word.{highestOf};
 ghost use Rattle.ready.specs.Rules.{Held};
 ghost use Rattle.passing.specs.Time.{dueBy};
-ghost use Rattle.ticks.specs.Running.{ran, earlier, limitOf, sooner, nextDue};
+ghost use Rattle.ticks.specs.Running.{ran, earlier, limitOf, sooner, nextDue, NoneBefore};
 use state::Thread;
 
 // The first of the dues, and the lowest thread that has it; thread 32 for none.
@@ -21,11 +21,27 @@ pub fn next_due<'a>(counts: &'a [u8; 32], dues: &'a [u64; 256], n: usize) -> Due
     requires { ⌜ n ≤ 32 ⌝ }
     ensures { λ r. ⌜ r ≡ nextDue (now (counts .entry)) (now (dues .entry)) n ⌝ }
 {
+    next_due_from(counts, dues, n, 0)
+}
+
+// The same, where no first due is before `earliest`: the search ends at the first that is not after it, since none is sooner.
+pub fn next_due_from<'a>(counts: &'a [u8; 32], dues: &'a [u64; 256], n: usize, earliest: u64) -> Due
+    requires { ⌜ (n ≤ 32) × NoneBefore (now counts) (now dues) n earliest ⌝ }
+    ensures { λ r. ⌜ r ≡ nextDue (now (counts .entry)) (now (dues .entry)) n ⌝ }
+{
     let mut best = Due { due: 0, thread: 32 };
     let mut i: usize = 0;
     while i < n {
-        best = sooner_of(best, i, counts[i], dues[i * 8]);
+        let k = i;
         i = i + 1;
+        let count = counts[k];
+        if count == 0 {
+            continue;
+        }
+        best = sooner_of(best, k, count, dues[k * 8]);
+        if best.due <= earliest {
+            return best;
+        }
     }
     best
 }

@@ -3,12 +3,9 @@ use borrow.Author.Needs.{needs}
 use mathlib.Core.Path.{ap₂}
 use Rattle.account.specs.declared.Server.{Server}
 use Rattle.account.specs.declared.Pending.{Pending}
-use Rattle.account.specs.declared.Account.{Account}
+use Rattle.account.proofs.RuleLaws.{made}
 use Rattle.account.proofs.first_back.Statement.{statement}
 use Rattle.account.proofs.first_back.Tie as tie
-
-abbrev made : Server → Pending → Account
-made s q = record { server = s; pending = q }
 
 element-copy-out-replenish : tie.Need-element-copy-out-replenish
 element-copy-out-replenish c = search needs

@@ -3,10 +3,11 @@ use borrow.Author.Needs.{needs}
 use mathlib.Core.Bool.{Bool}
 use mathlib.Core.Path.{sym, ap, _∙_}
 use native.Mathlib.Omega.{arith}
-use Rattle.account.specs.declared.Account.{Account}
-use Rattle.account.specs.declared.Place.the-variants.{Low, LowThenUpper}
-use Rattle.account.specs.Rules.{activated, outcome, limitReached}
-use Rattle.account.proofs.RuleLaws.{limit-blocked, limit-none, limit-once, limit-later}
+use Rattle.account.specs.declared.Pending.{Pending}
+use Rattle.account.specs.declared.Effect.{Effect}
+use Rattle.account.specs.Rules.{outcome, limitReached}
+use Rattle.account.proofs.RuleLaws.{made, limit-blocked}
+use Rattle.account.proofs.EffectLaws.{after, limit-amount, limit-is}
 use Rattle.account.proofs.limit_reached.Statement.{statement}
 use Rattle.account.proofs.limit_reached.Tie as tie
 
@@ -15,38 +16,21 @@ returns c =
     let a = c .before .args in
     sym (ap (λ (b : Bool). limitReached (a .now) b (a .p) (a .a)) (c .if1 .taken) ∙ limit-blocked (a .now) (a .p) (a .a))
 
-schedule-requires : tie.Need-schedule-requires
-schedule-requires c κs = search needs
+limit-effect-requires : tie.Need-limit-effect-requires
+limit-effect-requires c κs = search needs
+
+add-requires : tie.Need-add-requires
+add-requires c κs =
+    let s = c .before .before .before .before .before in
+    λ h. s .pre .1 (omega (arith, ap (λ (x : Effect). x .amount) (c .before .limit-effect .ensures), limit-amount (s .args .now) (s .args .p) (s .args .a .server)))
 
 returns-2 : tie.Need-returns-2
 returns-2 c =
-    let a = c .before .before .before .before .before .args in
-    ap (λ (b : Account). outcome b Low) (c .before .before .schedule .ensures)
-    ∙ sym (ap (λ (b : Bool). limitReached (a .now) b (a .p) (a .a)) (c .before .before .before .before .if1 .left) ∙ limit-none (a .now) (a .p) (a .a) (c .if2 .taken))
-
-due-by-requires : tie.Need-due-by-requires
-due-by-requires c κs = search needs
-
-activate-requires : tie.Need-activate-requires
-activate-requires c κs = search needs
-
-returns-3 : tie.Need-returns-3
-returns-3 c =
-    let a = c .before .before .before .before .before .before .before .before .args in
-    ap (λ (b : Account). outcome b LowThenUpper) (c .activate .ensures ∙ ap (activated (a .now)) (c .before .before .before .before .before .schedule .ensures))
-    ∙ sym
-    (ap (λ (b : Bool). limitReached (a .now) b (a .p) (a .a)) (c .before .before .before .before .before .before .before .if1 .left)
-    ∙ limit-once (a .now) (a .p) (a .a) (omega arith) (sym (c .before .before .due-by .ensures) ∙ c .before .if3 .taken))
-
-returns-4 : tie.Need-returns-4
-returns-4 c =
-    let a = c .before .before .before .before .before .before .before .args in
-    ap (λ (b : Account). outcome b Low) (c .before .before .before .before .schedule .ensures)
-    ∙ sym
-    (ap (λ (b : Bool). limitReached (a .now) b (a .p) (a .a)) (c .before .before .before .before .before .before .if1 .left)
-    ∙ limit-later (a .now) (a .p) (a .a) (omega arith) (sym (c .before .due-by .ensures) ∙ c .if3 .left))
+    let a = c .before .before .before .before .before .before .args in
+    let e = c .before .before .limit-effect in
+    ap (λ (q : Pending). outcome (made (e .result .server) q) (e .result .place)) (c .add .ensures)
+    ∙ ap (λ (x : Effect). outcome (after (a .now) (a .p) (a .a .server) (a .a .pending) x) (x .place)) (e .ensures)
+    ∙ sym (ap (λ (b : Bool). limitReached (a .now) b (a .p) (a .a)) (c .before .before .before .before .before .if1 .left) ∙ limit-is (a .now) (a .p) (a .a .server) (a .a .pending))
 
 pub limit-reached-spec : {M : Type 1} → statement M
-limit-reached-spec =
-    tie.close
-    (tie.spec returns schedule-requires returns-2 due-by-requires activate-requires returns-3 returns-4)
+limit-reached-spec = tie.close (tie.spec returns limit-effect-requires add-requires returns-2)

@@ -1,55 +1,28 @@
 -- `account::schedule` meets its contract.
-use mathlib.Core.Path.{_≡_, refl, sym, ap, _∙_}
-use native.Mathlib.Omega.{arith}
 use borrow.Author.Needs.{needs}
-use Rattle.account.specs.declared.Server.{Server}
-use Rattle.account.specs.declared.Pending.{Pending}
-use Rattle.account.specs.declared.Account.{Account}
-use Rattle.account.specs.Rules.{cleared}
-use Rattle.account.proofs.RuleLaws.{scheduled-none, scheduled-once, scheduled-later}
+use mathlib.Core.Path.{sym, ap, _∙_}
+use native.Mathlib.Omega.{arith}
+use Rattle.account.specs.declared.Effect.{Effect}
+use Rattle.account.proofs.RuleLaws.{made}
+use Rattle.account.proofs.EffectLaws.{after, schedule-amount, schedule-is}
 use Rattle.account.proofs.schedule.Statement.{statement}
 use Rattle.account.proofs.schedule.Tie as tie
 
-with-server : Server → Pending → Account
-with-server s q = record { server = s; pending = q }
+schedule-effect-requires : tie.Need-schedule-effect-requires
+schedule-effect-requires c κs = search needs
+
+add-requires : tie.Need-add-requires
+add-requires c κs =
+    let s = c .before .before .before .before in
+    λ h. s .pre .1 (omega (arith, ap (λ (x : Effect). x .amount) (c .before .schedule-effect .ensures), schedule-amount (s .args .now) (s .args .p) (s .args .a .server)))
 
 returns : tie.Need-returns
-returns c = sym (scheduled-none _ _ _ (c .if1 .taken))
-
-due-by-requires : tie.Need-due-by-requires
-due-by-requires c κs = search needs
-
-replenish-requires : tie.Need-replenish-requires
-replenish-requires c κs = search needs
-
-returns-2 : tie.Need-returns-2
-unfolding with-server
-returns-2 c =
-    let a = c .before .before .before .before .before .before .before .args in
-    ap (λ (s : Server). with-server s (a .a .pending)) (c .replenish .ensures)
-    ∙ sym (scheduled-once (a .now) (a .p) (a .a) (omega arith) (sym (c .before .before .due-by .ensures) ∙ c .before .if2 .taken))
-
-add-push : tie.Need-add-push
-add-push c = search needs
-
-push-requires : tie.Need-push-requires
-push-requires c κs = let s = c .before .before .before .before .before .before .before .before in s .pre .1 (omega arith)
-
-returns-3 : tie.Need-returns-3
-unfolding with-server
-returns-3 c =
-    let a = c .before .before .before .before .before .before .before .before .before .args in
-    ap (λ (q : Pending). with-server (cleared (a .a .server)) q) (c .push .ensures)
-    ∙ sym (scheduled-later (a .now) (a .p) (a .a) (omega arith) (sym (c .before .before .before .before .due-by .ensures) ∙ c .before .before .before .if2 .left))
+returns c =
+    let a = c .before .before .before .before .before .args in
+    let e = c .before .before .schedule-effect in
+    ap (made (e .result .server)) (c .add .ensures)
+    ∙ ap (after (a .now) (a .p) (a .a .server) (a .a .pending)) (e .ensures)
+    ∙ sym (schedule-is (a .now) (a .p) (a .a .server) (a .a .pending))
 
 pub schedule-spec : {M : Type 1} → statement M
-schedule-spec =
-    tie.close
-    (tie.spec
-    returns
-    due-by-requires
-    replenish-requires
-    returns-2
-    add-push
-    push-requires
-    returns-3)
+schedule-spec = tie.close (tie.spec schedule-effect-requires add-requires returns)

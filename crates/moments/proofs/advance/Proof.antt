@@ -1,12 +1,13 @@
 -- `moments::advance` meets its contract: each turn does one thing that happens, and time goes on from there as it did before.
-use Prim.Native.Nat.{ℕ, _-_, _<_}
+use Prim.Native.Nat.{ℕ, _-_, _≤_, _<_}
 use mathlib.Core.Bool.{Bool, true, false, cond}
 use mathlib.Core.Path.{_≡_, refl, sym, ap, _∙_, subst⁻¹}
-use lib.ListN.{length}
+use lib.ListN.{getD}
 use native.Mathlib.Omega.{arith}
 use lib.Dec.{eqb}
 use borrow.Author.Tests.{eqb-true, not-true, not-false}
 use Rattle.records.proofs.TestLaws.{tests, false-true}
+use Rattle.account.specs.declared.Outcome.{Outcome}
 use Rattle.passing.specs.Time.{dueBy}
 use Rattle.state.specs.declared.State.{State}
 use Rattle.state.specs.State.{threadAt}
@@ -16,7 +17,7 @@ use Rattle.moments.proofs.TurnLaws.{weight, start}
 use Rattle.moments.proofs.SeenLaws.{seen-held, top-small, thread-fits}
 use Rattle.moments.proofs.StepLaws.{Sendable}
 use Rattle.moments.proofs.AdvanceLaws.{Between, Turn, Ticked, tickedState, Chosen, Acted, Put, rest-fits, rest-idle, last, not-before, moment-fits, moment-idle}
-use Rattle.moments.proofs.AdvanceLaws.{ended-movable, ended-turn, number-small, limit-requires, ruled, acts, limit-due, put-going, put-falls}
+use Rattle.moments.proofs.AdvanceLaws.{ended-movable, ended-turn, number-small, limit-requires, some-pending, ruled, acts, leaves, rule-leaves, room, limit-due, put-going, put-falls, put-later}
 use Rattle.moments.proofs.advance.Statement.{statement}
 use Rattle.moments.proofs.advance.Tie as tie
 
@@ -146,12 +147,6 @@ sub-k-2 c = not-before (turn (c .before .before)) (is-due c)
 charged-thread-requires-2 : tie.Need-charged-thread-requires-2 Inv-loop μ-loop
 charged-thread-requires-2 c κs = moment-fits (turn (c .before .before)) (is-due c)
 
-mul-after : tie.Need-mul-after Inv-loop μ-loop
-mul-after c = omega (arith, head-small (c .before .before .before .before .before .before))
-
-element-set-from-after : tie.Need-element-set-from-after Inv-loop μ-loop
-element-set-from-after c = head-small (c .before .before .before .before .before .before)
-
 charged-idle-requires-2 : tie.Need-charged-idle-requires-2 Inv-loop μ-loop
 charged-idle-requires-2 c κs = moment-idle (turn (c .before .before .before)) (is-due (c .before))
 
@@ -235,6 +230,12 @@ loop-again c =
 
 -- ---- a limit or what is due
 
+mul-after : tie.Need-mul-after Inv-loop μ-loop
+mul-after c = omega (arith, head-small (c .before .before .before .before .before .before .before .before .before .before))
+
+element-set-from-after : tie.Need-element-set-from-after Inv-loop μ-loop
+element-set-from-after c = head-small (c .before .before .before .before .before .before .before .before .before .before)
+
 concerned-requires : tie.Need-concerned-requires Inv-loop μ-loop
 concerned-requires c κs = tt
 
@@ -258,126 +259,153 @@ chosen k =
 small : (k : Concerned) → k .concerned .result < 32
 small k = number-small (turnOf (of k)) (ticked (of k)) (chosen k)
 
+mul-at : tie.Need-mul-at Inv-loop μ-loop
+mul-at c = omega (arith, small c)
+
 mul-w : tie.Need-mul-w Inv-loop μ-loop
 mul-w c = omega (arith, small c)
 
 element-copy-out-w : tie.Need-element-copy-out-w Inv-loop μ-loop
 element-copy-out-w c = small c
 
-dues-length : (k : Concerned) → length (turnOf (of k) .state .dues) ≡ 256
-dues-length k = omega (tests, turnOf (of k) .going .mid .sizes)
+element-copy-out-count : tie.Need-element-copy-out-count Inv-loop μ-loop
+element-copy-out-count c = small (c .before)
 
-amounts-length : (k : Concerned) → length (turnOf (of k) .state .amounts) ≡ 256
-amounts-length k = omega (tests, turnOf (of k) .going .mid .sizes)
+mul-first : tie.Need-mul-first Inv-loop μ-loop
+mul-first c = omega (arith, small (c .before .before))
 
-pending-at-requires : tie.Need-pending-at-requires Inv-loop μ-loop
-pending-at-requires c κs = let k = c .before .before .before .before .before in (small k, dues-length k, amounts-length k)
+element-copy-out-first : tie.Need-element-copy-out-first Inv-loop μ-loop
+element-copy-out-first c = omega (arith, small (c .before .before))
 
-outcome-at-requires : tie.Need-outcome-at-requires Inv-loop μ-loop
-outcome-at-requires c κs =
-    let k = c .before .before .before .before .before .before in
-    λ q. limit-requires (turnOf (of k)) (ticked (of k)) (chosen k) (c .pending-at .result) (c .pending-at .ensures) (sym (is-limit (decided k)) ∙ q)
+effect-at-requires : tie.Need-effect-at-requires Inv-loop μ-loop
+effect-at-requires c κs =
+    let k = c .before .before .before in
+    λ q. limit-requires (turnOf (of k)) (ticked (of k)) (chosen k) (sym (is-limit (decided k)) ∙ q) .0
 
 -- the account's rule is done
 abbrev Ruled : Type 0
-Ruled = tie.After-outcome-at Inv-loop μ-loop
+Ruled = tie.After-effect-at Inv-loop μ-loop
 
 abbrev for : Ruled → Concerned
-for c = c .before .before .before .before .before .before .before
+for c = c .before .before .before .before
+
+abbrev limited : Ruled → Bool
+limited c = decided (for c) .limit-first .result
 
 abbrev stateOf : Ruled → State
 stateOf c = tickedState (turnOf (of (for c))) (ticked (of (for c)))
 
-rule : (c : Ruled) → c .outcome-at .result ≡ ruled (turnOf (of (for c))) (ticked (of (for c))) (chosen (for c)) (c .before .pending-at .result)
-rule c = rw (is-limit (decided (for c))) at (c .outcome-at .ensures)
+-- what it leaves
+abbrev left : Ruled → Outcome
+left c = leaves (turnOf (of (for c))) (ticked (of (for c))) (chosen (for c)) (limited c) (c .effect-at .result)
 
-acted : (c : Ruled) → Acted (turnOf (of (for c))) (stateOf c) (for c .concerned .result) (c .outcome-at .result)
-acted c =
-    let k = for c in
-    acts (turnOf (of k)) (ticked (of k)) (chosen k) (c .before .pending-at .result) (c .outcome-at .result) (c .before .pending-at .ensures) (rule c)
+rule : (c : Ruled) → ruled (turnOf (of (for c))) (ticked (of (for c))) (chosen (for c)) (eqb (turnOf (of (for c)) .moment) (turnOf (of (for c)) .limit)) ≡ left c
+rule c = let k = for c in rule-leaves (turnOf (of k)) (ticked (of k)) (chosen k) (limited c) (is-limit (decided k)) (c .effect-at .result) (c .effect-at .ensures)
+
+acted : (c : Ruled) → Acted (turnOf (of (for c))) (stateOf c) (for c .concerned .result) (left c)
+acted c = let k = for c in acts (turnOf (of k)) (ticked (of k)) (chosen k) (left c) (rule c)
+
+-- what is added has room
+fits : (c : Ruled) → limited c ≡ true → 0 < c .effect-at .result .amount → getD (stateOf c .counts) (for c .concerned .result) 0 < 8
+fits c = let k = for c in room (turnOf (of k)) (ticked (of k)) (chosen k) (limited c) (is-limit (decided k)) (c .effect-at .result) (c .effect-at .ensures)
 
 narrow-requires : tie.Need-narrow-requires Inv-loop μ-loop
-narrow-requires c κs = omega (arith, small (for (c .before .before .before .before .before .before)))
+narrow-requires c κs = omega (arith, small (for (c .before .before)))
 
 with-server-requires : tie.Need-with-server-requires Inv-loop μ-loop
 with-server-requires c κs = tt
 
 mul-changed : tie.Need-mul-changed Inv-loop μ-loop
-mul-changed c = omega (arith, small (for (c .before .before .before .before .before .before .before .before)))
+mul-changed c = omega (arith, small (for (c .before .before .before .before)))
 
 element-set-from-changed : tie.Need-element-set-from-changed Inv-loop μ-loop
-element-set-from-changed c = small (for (c .before .before .before .before .before .before .before .before))
+element-set-from-changed c = small (for (c .before .before .before .before))
 
 send-requires : tie.Need-send-requires Inv-loop μ-loop
 send-requires c κs =
-    let o = c .before .before .before .before .before .before .before .before .before in
+    let o = c .before .before .before .before .before in
     let u = stateOf o in
     let r =
-    subst⁻¹ (λ (n : ℕ). Sendable (u .word) n (threadAt u (for o .concerned .result) .parameters) (u .lists) (o .outcome-at .result .place)) (c .before .before .narrow .ensures)
+    subst⁻¹ (λ (n : ℕ). Sendable (u .word) n (threadAt u (for o .concerned .result) .parameters) (u .lists) (o .effect-at .result .place)) (c .before .before .narrow .ensures)
     (acted o .sendable) in
     (r .stays, r .low, r .both, r .upper)
 
+count-after-requires : tie.Need-count-after-requires Inv-loop μ-loop
+count-after-requires c κs =
+    let o = c .before .before .before .before .before .before in
+    let k = for o in
+    (fits o, λ q. some-pending (turnOf (of k)) (ticked (of k)) (chosen k) (sym (is-limit (decided k)) ∙ q))
+
 element-write-s : tie.Need-element-write-s Inv-loop μ-loop
-element-write-s c = small (for (c .before .before .before .before .before .before .before .before .before .before))
+element-write-s c = small (for (c .before .before .before .before .before .before .before))
 
-write-row-requires : tie.Need-write-row-requires Inv-loop μ-loop
-write-row-requires c κs = let k = for (c .before .before .before .before .before .before .before .before .before .before .before) in (small k, dues-length k)
+change-row-requires : tie.Need-change-row-requires Inv-loop μ-loop
+change-row-requires c κs = let o = c .before .before .before .before .before .before .before .before in (small (for o), omega (tests, turnOf (of (for o)) .going .mid .sizes), fits o)
 
-write-row-requires-2 : tie.Need-write-row-requires-2 Inv-loop μ-loop
-write-row-requires-2 c κs = let k = for (c .before .before .before .before .before .before .before .before .before .before .before .before .before) in (small k, amounts-length k)
+change-row-requires-2 : tie.Need-change-row-requires-2 Inv-loop μ-loop
+change-row-requires-2 c κs = let o = c .before .before .before .before .before .before .before .before .before .before in (small (for o), omega (tests, turnOf (of (for o)) .going .mid .sizes), fits o)
 
 -- its outcome is in place
 abbrev Written : Type 0
-Written = tie.After-write-row2 Inv-loop μ-loop
+Written = tie.After-change-row2 Inv-loop μ-loop
 
 abbrev ruling : Written → Ruled
-ruling c = c .before .before .before .before .before .before .before .before .before .before .before .before .before .before
+ruling c = c .before .before .before .before .before .before .before .before .before .before .before
 
-abbrev placed : (c : Written) → Put (stateOf (ruling c)) (for (ruling c) .concerned .result) (ruling c .outcome-at .result)
+abbrev placed : (c : Written) → Put (stateOf (ruling c)) (for (ruling c) .concerned .result) (left (ruling c))
 placed c =
     record {
-      number = c .before .before .before .before .before .before .before .narrow .result;
-      word = c .before .before .before .before .send .result;
-      thread = c .before .before .before .before .before .before .with-server .result;
+      number = c .before .before .before .before .before .before .before .before .narrow .result;
+      word = c .before .before .before .before .before .send .result;
+      thread = c .before .before .before .before .before .before .before .with-server .result;
+      count = c .before .before .before .before .count-after .result;
       dues = _;
       amounts = _;
       lists = _;
-      number-is = c .before .before .before .before .before .before .before .narrow .ensures;
-      word-is = c .before .before .before .before .send .ensures .1;
-      thread-is = c .before .before .before .before .before .before .with-server .ensures;
-      dues-is = c .before .before .write-row .ensures;
-      amounts-is = c .write-row2 .ensures;
-      lists-is = c .before .before .before .before .send .ensures .0;
+      number-is = c .before .before .before .before .before .before .before .before .narrow .ensures;
+      word-is = c .before .before .before .before .before .send .ensures .1;
+      thread-is = c .before .before .before .before .before .before .before .with-server .ensures;
+      count-is = c .before .before .before .before .count-after .ensures;
+      dues-is = c .before .before .change-row .ensures;
+      amounts-is = c .change-row2 .ensures;
+      lists-is = c .before .before .before .before .before .send .ensures .0;
     }
 
 -- ---- after a limit
 
-array-read-after-limit : tie.Need-array-read-after-limit Inv-loop μ-loop
-array-read-after-limit c = omega arith
+mul-d : tie.Need-mul-d Inv-loop μ-loop
+mul-d c = omega (arith, small (for (ruling (c .before))))
+
+element-copy-out-d : tie.Need-element-copy-out-d Inv-loop μ-loop
+element-copy-out-d c = omega (arith, small (for (ruling (c .before))))
 
 after-limit-requires : tie.Need-after-limit-requires Inv-loop μ-loop
 after-limit-requires c κs = tt
 
 loop-less-2 : tie.Need-loop-less-2 Inv-loop μ-loop
-loop-less-2 c = let w = c .before .before in put-falls (turnOf (of (for (ruling w)))) _ _ _ (placed w) (acted (ruling w))
+loop-less-2 c = let w = c .before .before .before in put-falls (turnOf (of (for (ruling w)))) _ _ _ (placed w) (acted (ruling w))
 
 loop-again-2 : tie.Need-loop-again-2 Inv-loop μ-loop
 loop-again-2 c =
-    let w = c .before .before in
+    let w = c .before .before .before in
     let o = ruling w in
     let k = for o in
     record {
       going = put-going (turnOf (of k)) _ _ _ (placed w) (acted o);
       size = size (of k .before .before .before .before);
       first =
-          limit-due (turnOf (of k)) (ticked (of k)) (chosen k) (o .before .pending-at .result) (o .outcome-at .result) (o .before .pending-at .ensures) (rule o)
-          (sym (is-limit (decided k)) ∙ c .before .if3 .taken) (placed w) (c .after-limit .result) (c .after-limit .ensures);
+          limit-due (turnOf (of k)) (ticked (of k)) (chosen k) (left o) (rule o) (sym (is-limit (decided k)) ∙ c .before .before .if3 .taken) (placed w)
+          (c .after-limit .result) (c .after-limit .ensures);
     }
 
 -- ---- after a replenishment
 
-next-due-requires-2 : tie.Need-next-due-requires-2 Inv-loop μ-loop
-next-due-requires-2 c κs = let k = for (ruling (c .before .before .before .before)) in omega (tests, size (of k .before .before .before .before), turnOf (of k) .going .mid .sizes)
+next-due-from-requires : tie.Need-next-due-from-requires Inv-loop μ-loop
+next-due-from-requires c κs =
+    let w = c .before .before .before .before in
+    let k = for (ruling w) in
+    let n : entry (of k .before .before .before .before) .args .s0 .header .n ≤ 32 = omega (tests, size (of k .before .before .before .before), turnOf (of k) .going .mid .sizes) in
+    (n, λ i l p. put-later (turnOf (of k)) _ _ _ (placed w) (acted (ruling w)) i (omega arith) p)
 
 loop-less-3 : tie.Need-loop-less-3 Inv-loop μ-loop
 loop-less-3 c = let w = c .before .before .before .before .before in put-falls (turnOf (of (for (ruling w)))) _ _ _ (placed w) (acted (ruling w))
@@ -390,7 +418,7 @@ loop-again-3 c =
     record {
       going = put-going (turnOf (of k)) _ _ _ (placed w) (acted o);
       size = size (of k .before .before .before .before);
-      first = c .next-due2 .ensures ∙ ap (nextDue _ _) (sym (size (of k .before .before .before .before)));
+      first = c .next-due-from .ensures ∙ ap (nextDue _ _) (sym (size (of k .before .before .before .before)));
     }
 
 pub advance-spec : {M : Type 1} → statement M
@@ -418,8 +446,6 @@ advance-spec =
     returns
     sub-k-2
     charged-thread-requires-2
-    mul-after
-    element-set-from-after
     charged-idle-requires-2
     limit-first-requires
     ends-quantum-requires
@@ -429,23 +455,30 @@ advance-spec =
     move-to-tail-requires
     loop-less
     loop-again
+    mul-after
+    element-set-from-after
     concerned-requires
+    mul-at
     mul-w
     element-copy-out-w
-    pending-at-requires
-    outcome-at-requires
+    element-copy-out-count
+    mul-first
+    element-copy-out-first
+    effect-at-requires
     narrow-requires
     with-server-requires
     mul-changed
     element-set-from-changed
     send-requires
+    count-after-requires
     element-write-s
-    write-row-requires
-    write-row-requires-2
-    array-read-after-limit
+    change-row-requires
+    change-row-requires-2
+    mul-d
+    element-copy-out-d
     after-limit-requires
     loop-less-2
     loop-again-2
-    next-due-requires-2
+    next-due-from-requires
     loop-less-3
     loop-again-3)
