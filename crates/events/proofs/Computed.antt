@@ -10,7 +10,7 @@ use Rattle.ready.specs.Word.{wordOf, occupancy}
 use Rattle.ready.specs.Sound.{soundRow, soundRows, soundLists}
 use Rattle.passing.specs.Time.{run}
 use Rattle.passing.specs.Sequence.{firstOf, status, answer}
-use Rattle.state.specs.State.{withRow}
+use Rattle.rows.specs.Rows.{withRow}
 use Rattle.state.specs.Sound.{presentTest, absentTest, soundState}
 use Rattle.ticks.specs.Running.{nextDue}
 use Rattle.moments.specs.Moments.{limits, replenish, replenishBelow, fire}

@@ -23,9 +23,11 @@ use Rattle.passing.specs.Sequence.{Answer, firstOf, accepted}
 use Rattle.passing.proofs.SequenceLaws.{firstOf-zero}
 use Rattle.state.specs.declared.Thread.{Thread}
 use Rattle.state.specs.declared.State.{State}
-use Rattle.state.specs.State.{noThread, threadAt, rowAt, pendingAt, assigned, placeOf, place}
+use Rattle.rows.specs.Rows.{rowAt}
+use Rattle.state.specs.State.{noThread, threadAt, pendingAt, assigned, placeOf, place}
 use Rattle.state.specs.Sound.{totals, soundState}
-use Rattle.state.proofs.SoundLaws.{noPending, ThreadSound, SoundFrom, Sound, sizeTests, row-length, state-in}
+use Rattle.rows.proofs.RowLaws.{row-length}
+use Rattle.state.proofs.SoundLaws.{noPending, ThreadSound, SoundFrom, Sound, sizeTests, state-in}
 use Rattle.state.proofs.SoundLaws.ThreadSound.{absent, fifo, rr, sporadic}
 use Rattle.moments.specs.Changes.{withServer, withLists, withAccount}
 use Rattle.moments.proofs.ChangeLaws.{withBound, totals-set, changed-at}

@@ -18,7 +18,8 @@ use Rattle.ready.specs.Rules.{Leavable, Joinable, Movable}
 use Rattle.ready.proofs.SoundLaws.{leavable, joinable, movable}
 use Rattle.state.specs.declared.Thread.{Thread}
 use Rattle.state.specs.declared.State.{State}
-use Rattle.state.specs.State.{threadAt, withRow, pendingAt, accountAt, assigned, place}
+use Rattle.rows.specs.Rows.{withRow}
+use Rattle.state.specs.State.{threadAt, pendingAt, accountAt, assigned, place}
 use Rattle.state.specs.Sound.{soundState}
 use Rattle.state.proofs.SoundLaws.{Sound, range-out, state-out}
 use Rattle.ticks.specs.Running.{level, head, idles}

@@ -8,7 +8,8 @@ use Rattle.account.specs.declared.Account.{Account}
 use Rattle.ready.specs.Word.{occupancy}
 use Rattle.state.specs.declared.Thread.{Thread}
 use Rattle.state.specs.declared.State.{State}
-use Rattle.state.specs.State.{threadAt, withRow}
+use Rattle.rows.specs.Rows.{withRow}
+use Rattle.state.specs.State.{threadAt}
 use Rattle.ticks.specs.Running.{level, head}
 use Rattle.moments.specs.Changes.{withLists, withServer, withAccount}
 use Rattle.events.specs.Effects.{block, yield, wake, set, byKind, effect}

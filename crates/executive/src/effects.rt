@@ -26,8 +26,8 @@ pub(super) fn put(s0: State, i: usize, t: Thread, a: Account) -> State
     let amounts = q.amounts;
     s.threads[i] = parts::with_server(t, v);
     s.counts[i] = q.count;
-    state::write_row(&mut s.dues, i, dues);
-    state::write_row(&mut s.amounts, i, amounts);
+    rows::write_row(&mut s.dues, i, dues);
+    rows::write_row(&mut s.amounts, i, amounts);
     s
 }
 

@@ -155,7 +155,7 @@ fn run(mut s: State, e: Event, known: bool) -> Answer
         let number = effects::concerned(e.kind, e.thread, h);
         let j = parts::wide(number);
         let t = s.threads[j];
-        let q = state::pending_at(&s.counts, &s.dues, &s.amounts, j);
+        let q = rows::pending_at(&s.counts, &s.dues, &s.amounts, j);
         let v = t.server;
         let a = Account {
             server: v,
@@ -171,8 +171,8 @@ fn run(mut s: State, e: Event, known: bool) -> Answer
         let changed = parts::with_server(u, served);
         s.threads[j] = changed;
         s.counts[j] = pending.count;
-        state::write_row(&mut s.dues, j, dues);
-        state::write_row(&mut s.amounts, j, amounts);
+        rows::write_row(&mut s.dues, j, dues);
+        rows::write_row(&mut s.amounts, j, amounts);
         let word = s.word;
         s.word = effects::shift(&mut s.lists, word, number, c.from, c.to);
     }

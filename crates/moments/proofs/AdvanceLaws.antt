@@ -21,8 +21,9 @@ use Rattle.passing.specs.Time.{dueBy}
 use Rattle.passing.proofs.TimeLaws.{due-true, due-false}
 use Rattle.state.specs.declared.Thread.{Thread}
 use Rattle.state.specs.declared.State.{State}
-use Rattle.state.specs.State.{threadAt, rowAt, withRow, pendingAt, accountAt}
-use Rattle.state.proofs.SoundLaws.{row-length}
+use Rattle.rows.specs.Rows.{rowAt, withRow}
+use Rattle.state.specs.State.{threadAt, pendingAt, accountAt}
+use Rattle.rows.proofs.RowLaws.{row-length}
 use Rattle.ticks.specs.declared.Due.{Due}
 use Rattle.ticks.specs.Running.{level, head, ran, charge, limit, nextDue, next}
 use Rattle.moments.specs.Changes.{withServer, withLeft, sentTo, entriesAfter, withOutcome}

@@ -19,9 +19,10 @@ use Rattle.ready.proofs.Soundness.{ListsSound}
 use Rattle.ready.proofs.SoundLaws.{withPlace, sound-same}
 use Rattle.state.specs.declared.Thread.{Thread}
 use Rattle.state.specs.declared.State.{State}
-use Rattle.state.specs.State.{noThread, threadAt, rowAt, withRow, pendingAt, accountAt, placeOf, place}
+use Rattle.rows.specs.Rows.{rowAt, withRow}
+use Rattle.state.specs.State.{noThread, threadAt, pendingAt, accountAt, placeOf, place}
 use Rattle.state.specs.Sound.{totals}
-use Rattle.state.proofs.RowLaws.{row-same}
+use Rattle.rows.proofs.RowLaws.{row-same}
 use Rattle.state.proofs.SoundLaws.{ThreadSound, SoundFrom, sizeTests}
 use Rattle.moments.specs.Changes.{withThread, withLists, withServer, withAccount}
 

@@ -25,7 +25,8 @@ use Rattle.ready.proofs.Soundness.{ListsSound}
 use Rattle.ready.proofs.SoundLaws.{sound-same, HighestSound, highest-sound}
 use Rattle.state.specs.declared.Thread.{Thread}
 use Rattle.state.specs.declared.State.{State}
-use Rattle.state.specs.State.{noThread, threadAt, rowAt, pendingAt, accountAt, assigned, placeOf, place}
+use Rattle.rows.specs.Rows.{rowAt}
+use Rattle.state.specs.State.{noThread, threadAt, pendingAt, accountAt, assigned, placeOf, place}
 use Rattle.state.specs.Sound.{totals}
 use Rattle.state.proofs.SoundLaws.{ThreadSound, SoundFrom, Sound, sizeTests, SporadicTests}
 use Rattle.state.proofs.SoundLaws.ThreadSound.{absent, fifo, rr, sporadic}

@@ -30,7 +30,8 @@ use Rattle.ready.proofs.Soundness.{ListsSound}
 use Rattle.ready.proofs.SoundLaws.{withPlace, sound-same, move-sound}
 use Rattle.state.specs.declared.Thread.{Thread}
 use Rattle.state.specs.declared.State.{State}
-use Rattle.state.specs.State.{noServer, noThread, threadAt, rowAt, pendingAt, accountAt, assigned, placeOf, place}
+use Rattle.rows.specs.Rows.{rowAt}
+use Rattle.state.specs.State.{noServer, noThread, threadAt, pendingAt, accountAt, assigned, placeOf, place}
 use Rattle.state.proofs.SoundLaws.{noPending, ThreadSound, SoundFrom, Sound, sizeTests, SporadicTests}
 use Rattle.state.proofs.SoundLaws.ThreadSound.{absent, fifo, rr, sporadic}
 use Rattle.ticks.specs.Running.{level, head, idles}

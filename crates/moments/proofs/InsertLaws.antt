@@ -15,7 +15,7 @@ use Rattle.account.specs.declared.Pending.{Pending}
 use Rattle.account.specs.declared.Account.{Account}
 use Rattle.account.specs.declared.Outcome.{Outcome}
 use Rattle.account.specs.Rules.{dueNow, withEntry, scheduled, limitReached}
-use Rattle.state.specs.State.{withRow}
+use Rattle.rows.specs.Rows.{withRow}
 use Rattle.ticks.specs.declared.Due.{Due}
 use Rattle.ticks.specs.Running.{sooner, nextDue}
 use Rattle.moments.proofs.ChangeLaws.{row-at, row-other}

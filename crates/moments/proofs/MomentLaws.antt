@@ -16,7 +16,8 @@ use Rattle.passing.specs.Time.{moment}
 use Rattle.passing.proofs.TimeLaws.{Laws}
 use Rattle.state.specs.declared.Thread.{Thread}
 use Rattle.state.specs.declared.State.{State}
-use Rattle.state.specs.State.{noThread, threadAt, rowAt, pendingAt}
+use Rattle.rows.specs.Rows.{rowAt}
+use Rattle.state.specs.State.{noThread, threadAt, pendingAt}
 use Rattle.state.specs.Sound.{soundState}
 use Rattle.state.proofs.SoundLaws.{ThreadSound, SoundFrom, Sound, state-in, state-out}
 use Rattle.state.proofs.SoundLaws.ThreadSound.{absent, fifo, rr, sporadic}

@@ -19,7 +19,8 @@ use Rattle.passing.specs.Time.{dueBy, moment}
 use Rattle.passing.proofs.TimeLaws.{due-false, due-yes, advance-rest, advance-due}
 use Rattle.state.specs.declared.Thread.{Thread}
 use Rattle.state.specs.declared.State.{State}
-use Rattle.state.specs.State.{noThread, threadAt, rowAt, pendingAt}
+use Rattle.rows.specs.Rows.{rowAt}
+use Rattle.state.specs.State.{noThread, threadAt, pendingAt}
 use Rattle.state.proofs.SoundLaws.{SoundFrom, Sound, state-in}
 use Rattle.ticks.specs.declared.Due.{Due}
 use Rattle.ticks.specs.Running.{level, head, idles, ran, charge, limit, nextDue, next}

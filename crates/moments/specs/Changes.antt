@@ -16,7 +16,8 @@ use Rattle.ready.specs.Lists.{moved}
 use Rattle.ready.specs.Word.{occupancy}
 use Rattle.state.specs.declared.Thread.{Thread}
 use Rattle.state.specs.declared.State.{State}
-use Rattle.state.specs.State.{threadAt, withRow}
+use Rattle.rows.specs.Rows.{withRow}
+use Rattle.state.specs.State.{threadAt}
 
 abbrev pub withThread : ℕ → Thread → State → State
 withThread i t s =

@@ -9,7 +9,7 @@ ghost use Rattle.account.specs.declared.Place.the-variants.{Stays, Low, LowThen
 ghost use Rattle.ready.specs.Lists.{moved};
 ghost use Rattle.ready.specs.Word.{occupancy};
 ghost use Rattle.ready.specs.Rules.{Movable};
-ghost use Rattle.state.specs.State.{rowAt, withRow};
+ghost use Rattle.rows.specs.Rows.{rowAt, withRow};
 ghost use Rattle.state.specs.Sound.{soundState};
 ghost use Rattle.ticks.specs.Running.{earlier};
 ghost use Rattle.moments.specs.Changes.{withServer, withLeft, sentTo, countAfter, rowAfter};
@@ -159,10 +159,10 @@ fn change_row(xs: &mut [u64; 256], i: usize, limited: bool, amount: u64, count: 
         if amount == 0 {
             return;
         }
-        state::write_place(xs, i, count, x);
+        rows::write_place(xs, i, count, x);
         return;
     }
-    state::shift_row(xs, i);
+    rows::shift_row(xs, i);
 }
 
 // The state at the time t. Each turn charges the ticks up to the next moment and does one thing that happens at it: the

@@ -19,9 +19,11 @@ use Rattle.account.specs.Sound.{soundAt, runsUpper}
 use Rattle.account.proofs.SoundLaws.{AccountSound, sound-in, sound-out}
 use Rattle.ready.specs.Sound.{soundLists}
 use Rattle.ready.proofs.Soundness.{ListsSound, sound-true, true-sound}
+use Rattle.rows.proofs.RowLaws.{row-length}
 use Rattle.state.specs.declared.Thread.{Thread}
 use Rattle.state.specs.declared.State.{State}
-use Rattle.state.specs.State.{noServer, noThread, threadAt, rowAt, pendingAt, accountAt, place}
+use Rattle.rows.specs.Rows.{rowAt}
+use Rattle.state.specs.State.{noServer, noThread, threadAt, pendingAt, accountAt, place}
 use Rattle.state.specs.Sound.{noAccountTests, leftTests, accountTest, presentTest, absentTest, threadTest, totals, soundTests, soundState}
 
 -- nothing pending
@@ -242,9 +244,6 @@ thread-out start now true t q d x e = present-out start now t q d x e
 thread-out start now false t q d x e = absent-out start now now t q d x e
 
 -- ---- the state
-
-pub row-length : (i : ℕ) (xs : List ℕ) → i < 32 → length xs ≡ 256 → length (rowAt i xs) ≡ 8
-row-length i xs h l = length-take-le 8 (drop (i * 8) xs) (omega (arith, length-drop (i * 8) xs))
 
 pub state-out : (s : State) → soundState s ≡ true → Sound s
 unfolding soundState

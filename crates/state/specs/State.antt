@@ -10,6 +10,7 @@ use Rattle.account.specs.declared.Server.{Server}
 use Rattle.account.specs.declared.Pending.{Pending}
 use Rattle.account.specs.declared.Account.{Account}
 use Rattle.account.specs.Account.{entries, atUpper}
+use Rattle.rows.specs.Rows.{rowAt}
 use Rattle.state.specs.declared.Thread.{Thread}
 use Rattle.state.specs.declared.State.{State}
 
@@ -23,13 +24,6 @@ noThread = record { parameters = noParameters; blocked = false; total = 0; left 
 -- State 2: thread i
 abbrev pub threadAt : State → ℕ → Thread
 threadAt s i = getD (s .threads) i noThread
-
--- thread i's places among those of all threads, and the array with other numbers there
-abbrev pub rowAt : ℕ → List ℕ → List ℕ
-rowAt i xs = take entries (drop (i * entries) xs)
-
-unfoldable pub withRow : ℕ → List ℕ → List ℕ → List ℕ
-withRow i row xs = take (i * entries) xs ++ (row ++ drop (i * entries + entries) xs)
 
 -- State 2: the pending replenishments and the account of thread i
 abbrev pub pendingAt : State → ℕ → Pending

@@ -4,10 +4,9 @@ ghost use mathlib.Core.Bool.{cond};
 ghost use Prim.Native.Nat.{_<_};
 ghost use lib.ListN.{length, getD};
 ghost use Rattle.records.specs.Tests.{all, zeros};
-ghost use Rattle.state.specs.State.{rowAt};
+ghost use Rattle.rows.specs.Rows.{rowAt};
 ghost use Rattle.state.specs.Sound.{noAccountTests, leftTests, accountTest, presentTest, absentTest};
 use super::Thread;
-use super::pending_at;
 use account::Account;
 use account::Server;
 
@@ -101,7 +100,7 @@ fn account_holds<'a>(
     let p = t.parameters;
     let a = Account {
         server: s,
-        pending: pending_at(counts, dues, amounts, i),
+        pending: rows::pending_at(counts, dues, amounts, i),
     };
     account_sound::sound(p, a, t.blocked, start, time)
 }

@@ -5,8 +5,8 @@ use mathlib.Core.List.{List}
 use native.Mathlib.Omega.{arith}
 use borrow.Author.Tests.{eq-eqb, ne-eqb}
 use Rattle.records.proofs.TestLaws.{cond-true, cond-false}
-use Rattle.state.specs.State.{withRow}
-use Rattle.state.proofs.RowLaws.{row-same}
+use Rattle.rows.specs.Rows.{withRow}
+use Rattle.rows.proofs.RowLaws.{row-same}
 use borrow.Author.Needs.{needs}
 use Rattle.moments.proofs.change_row.Statement.{statement}
 use Rattle.moments.proofs.change_row.Tie as tie

@@ -8,8 +8,8 @@ use native.Mathlib.Omega.{arith}
 use Rattle.records.specs.Tests.{all, zeros}
 use Rattle.records.proofs.TestLaws.{all-one, cond-never}
 use Rattle.account_sound.proofs.ScanLaws.{zero-step, zero-not}
-use Rattle.state.specs.State.{rowAt}
-use Rattle.state.proofs.RowLaws.{row-length, row-at}
+use Rattle.rows.specs.Rows.{rowAt}
+use Rattle.rows.proofs.RowLaws.{row-length, row-at}
 use Rattle.state.proofs.tests.row_zero.Statement.{statement}
 use Rattle.state.proofs.tests.row_zero.Tie as tie
 

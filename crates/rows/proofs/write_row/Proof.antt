@@ -4,9 +4,9 @@ use mathlib.Core.Path.{_≡_, ap, _∙_}
 use native.Mathlib.Omega.{arith}
 use lib.ListN.{length, length-set}
 use lib.Seq.{paste-zero}
-use Rattle.state.proofs.RowLaws.{writtenTo, write-step, write-end}
-use Rattle.state.proofs.write_row.Statement.{statement}
-use Rattle.state.proofs.write_row.Tie as tie
+use Rattle.rows.proofs.RowLaws.{writtenTo, write-step, write-end}
+use Rattle.rows.proofs.write_row.Statement.{statement}
+use Rattle.rows.proofs.write_row.Tie as tie
 
 abbrev Inv-loop : tie.InvT-loop
 Inv-loop xs₀ i row at j₀ xs j = (j ≤ 8) × (length xs ≡ 256) × (xs ≡ writtenTo i row xs₀ j)

@@ -8,7 +8,7 @@ use native.Mathlib.Numerals.{add-one}
 use native.Mathlib.Omega.{arith}
 use Rattle.records.proofs.PartLaws.{replaced-same}
 use Rattle.account.specs.declared.Pending.{Pending}
-use Rattle.state.specs.State.{rowAt, withRow}
+use Rattle.rows.specs.Rows.{rowAt, withRow}
 
 -- thread i's pending replenishments, in the arrays of all threads
 abbrev pub pendingOf : List ℕ → List ℕ → List ℕ → ℕ → Pending

@@ -2,9 +2,9 @@
 use Prim.Native.Nat.{_-_, _≤_}
 use mathlib.Core.Path.{_≡_, refl, ap, _∙_}
 use native.Mathlib.Omega.{arith}
-use Rattle.state.proofs.RowLaws.{readTo, read-step, read-end}
-use Rattle.state.proofs.read_row.Statement.{statement}
-use Rattle.state.proofs.read_row.Tie as tie
+use Rattle.rows.proofs.RowLaws.{readTo, read-step, read-end}
+use Rattle.rows.proofs.read_row.Statement.{statement}
+use Rattle.rows.proofs.read_row.Tie as tie
 
 abbrev Inv-loop : tie.InvT-loop
 Inv-loop xs i row₀ from j₀ row j = (j ≤ 8) × (row ≡ readTo i xs j)

@@ -4,9 +4,9 @@ use mathlib.Core.List.{List}
 use Prim.Native.Nat.{ℕ}
 use borrow.Author.Needs.{needs}
 use Rattle.account.specs.Rules.{shifted}
-use Rattle.state.specs.State.{withRow}
-use Rattle.state.proofs.shift_row.Statement.{statement}
-use Rattle.state.proofs.shift_row.Tie as tie
+use Rattle.rows.specs.Rows.{withRow}
+use Rattle.rows.proofs.shift_row.Statement.{statement}
+use Rattle.rows.proofs.shift_row.Tie as tie
 
 read-row-requires : tie.Need-read-row-requires
 read-row-requires c κs = search needs

@@ -4,10 +4,10 @@ use mathlib.Core.List.{List}
 use Prim.Native.Nat.{ℕ}
 use lib.ListN.{getD}
 use Rattle.account.specs.declared.Pending.{Pending}
-use Rattle.state.specs.State.{rowAt}
+use Rattle.rows.specs.Rows.{rowAt}
 use borrow.Author.Needs.{needs}
-use Rattle.state.proofs.pending_at.Statement.{statement}
-use Rattle.state.proofs.pending_at.Tie as tie
+use Rattle.rows.proofs.pending_at.Statement.{statement}
+use Rattle.rows.proofs.pending_at.Tie as tie
 
 abbrev made : ℕ → List ℕ → List ℕ → Pending
 made n ds xs = record { count = n; dues = ds; amounts = xs }

@@ -1,9 +1,9 @@
 -- `state::write_place` meets its contract.
 use borrow.Author.Needs.{needs}
 use native.Mathlib.Omega.{arith}
-use Rattle.state.proofs.RowLaws.{row-set}
-use Rattle.state.proofs.write_place.Statement.{statement}
-use Rattle.state.proofs.write_place.Tie as tie
+use Rattle.rows.proofs.RowLaws.{row-set}
+use Rattle.rows.proofs.write_place.Statement.{statement}
+use Rattle.rows.proofs.write_place.Tie as tie
 
 mul-xs : tie.Need-mul-xs
 mul-xs c = search needs

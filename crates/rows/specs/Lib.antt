@@ -1,0 +1,2 @@
+-- What a reader of `rows` must believe.
+pub mod Rows
