@@ -1,9 +1,9 @@
 -- The rules by cases: what each gives where its tests are known.
-use Prim.Native.Nat.{ℕ, zero, suc, _+_, _-_, _≤_, _<_}
-use mathlib.Core.Bool.{Bool, true, false, cond, _&&_}
+use Prim.Native.Nat.{ℕ, zero, suc, _-_, _≤_, _<_}
+use mathlib.Core.Bool.{Bool, true, false, _&&_}
 use mathlib.Core.Path.{_≡_, refl, sym, ap, _∙_}
 use lib.ListN.{getD}
-use lib.Dec.{ltb, leb, eqb}
+use lib.Dec.{ltb, leb}
 use native.Mathlib.Omega.{arith}
 use borrow.Author.Tests.{lt-ltb, le-ltb, eq-eqb, ne-eqb, ltb-true, leb-true}
 use Rattle.records.proofs.TestLaws.{false-true}
@@ -13,7 +13,7 @@ use Rattle.account.specs.declared.Pending.{Pending}
 use Rattle.account.specs.declared.Account.{Account}
 use Rattle.account.specs.declared.Place.the-variants.{Stays, Low, LowThenUpper, Upper}
 use Rattle.account.specs.Account.{isUpper}
-use Rattle.account.specs.Rules.{dueNow, atOnce, madePending, scheduled, activated, outcome, limitReached, waking, firstIsDue, firstBack, allBack, raised, returning}
+use Rattle.account.specs.Rules.{dueNow, atOnce, madePending, scheduled, activated, outcome, limitReached, firstIsDue, firstBack, allBack, raised, returning}
 
 abbrev pub made : Server → Pending → Account
 made s q = record { server = s; pending = q }

@@ -1,28 +1,25 @@
 -- Soundness of an account as a proposition, and how the rules keep it.
 use Prim.Native.Nat.{ℕ, zero, suc, _+_, _-_, _≤_, _<_, min}
 use mathlib.Core.Bool.{Bool, true, false, cond, _&&_}
-use mathlib.Core.Path.{_≡_, refl, sym, ap, ap₂, _∙_, subst, subst⁻¹}
+use mathlib.Core.Path.{_≡_, refl, sym, ap, _∙_}
 use mathlib.Core.List.{List, [], _∷_, _++_}
-use lib.ListN.{length, take, drop, getD, set, replicate, length-set, length-append, length-drop}
+use lib.ListN.{length, take, drop, getD, set, length-set, length-append}
 use lib.Seq.{take-append-le, drop-append-le, take-suc-set, drop-set-lt, drop-drop}
 use lib.Dec.{ltb, leb, eqb}
 use native.Mathlib.Numerals.{add-one}
 use native.Mathlib.Omega.{arith}
-use borrow.Author.Tests.{lt-ltb, le-ltb, le-leb, ltb-true, leb-true, lt-leb, leb-false, eqb-true, ne-eqb}
+use borrow.Author.Tests.{lt-ltb, le-ltb, ltb-true, lt-leb, leb-false, ne-eqb}
 use Rattle.records.specs.declared.Parameters.{Parameters}
-use Rattle.records.specs.Tests.{all, zeros}
-use Rattle.records.proofs.TestLaws.{tests, All, all-true, true-all, false-true, zeros-drop, zeros-append, zeros-replicate, cond-true, cond-false}
-use Rattle.account.specs.declared.Server.{Server}
-use Rattle.account.specs.declared.Pending.{Pending}
+use Rattle.records.proofs.TestLaws.{tests, All, all-true, true-all, false-true, zeros-drop, zeros-append, zeros-replicate}
 use Rattle.account.specs.declared.Account.{Account}
 use Rattle.account.specs.declared.Outcome.{Outcome}
 use Rattle.account.specs.declared.Place.{Place}
 use Rattle.account.specs.declared.Place.the-variants.{Stays, Low, LowThenUpper, Upper}
 use Rattle.account.specs.Account.{dues, amounts, isUpper, firstDue, freshAccount}
-use Rattle.account.specs.Rules.{charged, heldAt, replenished, cleared, dueOf, dueNow, withEntry, shifted, withoutFirst, atOnce, madePending, scheduled, activated, outcome, limitReached, blocking, waking, firstIsDue, firstBack, allBack, returning}
+use Rattle.account.specs.Rules.{charged, dueOf, dueNow, shifted, withoutFirst, atOnce, madePending, scheduled, activated, limitReached, blocking, waking, firstIsDue, firstBack, allBack, returning}
 use Rattle.account.specs.Sound.{sum, positive, dueTests, dueEnd, numberTests, amountTests, placeTests, runsUpper, soundTests, soundAt}
 use Rattle.account.proofs.ChargeLaws.{charge-sum}
-use Rattle.account.proofs.RuleLaws.{scheduled-none, scheduled-once, scheduled-later, limit-once, limit-later, back-due, back-done, back-one, due-some, first-due, return-none, return-blocked, return-upper, return-low}
+use Rattle.account.proofs.RuleLaws.{scheduled-none, scheduled-once, scheduled-later, limit-once, limit-later, back-done, back-one, due-some, first-due, return-none, return-blocked, return-upper, return-low}
 
 -- dues are after lo, which is now in a sound account; `up`: runnable at the upper priority
 pub record AccountSound (start now lo : ℕ) (up : Bool) (p : Parameters) (a : Account) : Type 0 where

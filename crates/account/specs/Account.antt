@@ -1,6 +1,6 @@
 -- One sporadic account (State 2): capacity, charged time not yet scheduled, activation time, pending replenishments.
 use Prim.Native.Nat.{ℕ}
-use mathlib.Core.Bool.{Bool, false, cond, _&&_}
+use mathlib.Core.Bool.{Bool, cond, _&&_}
 use mathlib.Core.List.{List}
 use lib.ListN.{take, getD, replicate}
 use lib.Dec.{ltb, eqb}

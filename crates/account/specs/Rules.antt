@@ -1,6 +1,6 @@
 -- What happens to an account: charging, scheduling, replenishing, and the rules made of them.
 use Prim.Native.Nat.{ℕ, zero, suc, _+_, _-_, min}
-use mathlib.Core.Bool.{Bool, true, false, cond, _&&_}
+use mathlib.Core.Bool.{Bool, cond, _&&_}
 use mathlib.Core.List.{List, [], _∷_, _++_}
 use lib.ListN.{drop, getD, set}
 use lib.Dec.{ltb, leb, eqb}

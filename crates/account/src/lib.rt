@@ -205,7 +205,7 @@ fn add(q: Pending, due: u64, amount: u64) -> Pending
 }
 
 // U is scheduled.
-pub fn schedule(p: Parameters, a: Account, now: u64) -> Account
+fn schedule(p: Parameters, a: Account, now: u64) -> Account
     requires { ⌜ (a .server .activation + p .period < 2 ^ 64) × (0 < a .server .used → a .pending .count < 8) ⌝ }
     ensures { λ r. ⌜ r ≡ scheduled now p a ⌝ }
 {

@@ -1,6 +1,6 @@
 -- The executive meets the machine's laws, so extra clock readings change nothing.
 use mathlib.Core.Path.{_≡_, refl, ap, _∙_, subst⁻¹}
-use Prim.Native.Nat.{ℕ, _≤_, _<_}
+use Prim.Native.Nat.{ℕ}
 use mathlib.Core.Bool.{true, cond, not}
 use mathlib.Core.List.{[], _∷_}
 use lib.ListN.{take, drop}
@@ -31,7 +31,7 @@ use Rattle.moments.proofs.FireLaws.{header-fire}
 use Rattle.moments.proofs.ChargeLaws.{later, no-word}
 use Rattle.moments.proofs.MomentLaws.{passing}
 use Rattle.events.specs.Effects.{effect}
-use Rattle.events.specs.Answers.{fieldStatusOf, stateStatusOf, fieldStatus, stateStatus, executive, badKind, badThread, badParameters}
+use Rattle.events.specs.Answers.{fieldStatusOf, stateStatusOf, fieldStatus, executive, badKind, badParameters}
 use Rattle.events.specs.Demand.{ReadingsChangeNothing, AcceptedIsSound, OpeningIsSound, HeadRuns, TimesAddUp, NextIsLater, PassingComposes}
 use Rattle.events.proofs.EventLaws.{effect-sound}
 use Rattle.events.proofs.OpeningLaws.{opening-sound}

@@ -1,18 +1,15 @@
 -- Each effect leaves a sound state.
-use Prim.Native.Nat.{ℕ, zero, suc, _+_, _-_, _*_, _≤_, _<_}
-use mathlib.Core.Bool.{Bool, true, false, cond}
+use Prim.Native.Nat.{ℕ, zero, suc, _-_, _≤_}
+use mathlib.Core.Bool.{Bool, true, false}
 use mathlib.Core.Path.{_≡_, refl, sym, ap, _∙_, subst, subst⁻¹}
-use mathlib.Core.List.{List, [], _∷_}
-use lib.ListN.{length, getD}
-use lib.Dec.{ltb, leb, eqb}
+use mathlib.Core.List.{[], _∷_}
+use lib.ListN.{length}
+use lib.Dec.{leb}
 use native.Mathlib.Omega.{arith}
-use native.Mathlib.Decide.{ℕ-discrete}
-use borrow.Author.Tests.{eqb-true, eqb-false, eq-eqb, ne-eqb}
 use Rattle.records.specs.declared.Parameters.{Parameters}
 use Rattle.records.specs.Tests.{byPolicy}
 use Rattle.records.specs.Ranges.{inRange, fifoInRange, rrInRange, sporadicInRange}
 use Rattle.records.proofs.TestLaws.{tests, All, cond-true, cond-false, false-true}
-use Rattle.account.specs.declared.Server.{Server}
 use Rattle.account.specs.declared.Pending.{Pending}
 use Rattle.account.specs.declared.Account.{Account}
 use Rattle.account.specs.declared.Place.{Place}
@@ -22,12 +19,11 @@ use Rattle.account.specs.Rules.{blocking, waking}
 use Rattle.account.specs.Sound.{runsUpper}
 use Rattle.account.proofs.SoundLaws.{AccountSound, Sent, block-sound, wake-upper, wake-low, fresh-sound, upper-room}
 use Rattle.state.specs.declared.Thread.{Thread}
-use Rattle.state.specs.declared.State.{State}
-use Rattle.state.specs.State.{noServer, threadAt, pendingAt, accountAt, assigned, placeOf, place}
-use Rattle.state.proofs.SoundLaws.{noPending, ThreadSound, SoundFrom, Sound, RrTests, SporadicTests, range-out, fifo-out, rr-out, sporadic-out}
+use Rattle.state.specs.State.{assigned}
+use Rattle.state.proofs.SoundLaws.{ThreadSound, range-out, fifo-out, rr-out, sporadic-out}
 use Rattle.state.proofs.SoundLaws.ThreadSound.{absent, fifo, rr, sporadic}
 use Rattle.ticks.proofs.RunLaws.{by-zero, by-one, by-two}
-use Rattle.moments.specs.Changes.{withServer, withLeft}
+use Rattle.moments.specs.Changes.{withServer}
 use Rattle.events.specs.Effects.{withBlocked, fullQuantum, ifSporadic, noAccount, renewed, newAccount}
 
 -- a thread and an account that fit a place of a sound state

@@ -1,18 +1,18 @@
 -- An accepted event leaves a sound state.
-use Prim.Native.Nat.{ℕ, zero, suc, _+_, _-_, _*_, _≤_, _<_}
+use Prim.Native.Nat.{ℕ, zero, suc, _-_, _≤_, _<_}
 use mathlib.Core.Bool.{Bool, true, false, cond, not, _&&_}
 use mathlib.Core.Path.{_≡_, refl, sym, ap, ap₂, _∙_, subst, subst⁻¹}
-use mathlib.Core.List.{List, [], _∷_}
+use mathlib.Core.List.{List}
 use lib.ListN.{length, getD}
 use lib.Dec.{ltb, leb, eqb}
 use native.Mathlib.Omega.{arith}
 use native.Mathlib.Decide.{ℕ-discrete}
-use borrow.Author.Tests.{eqb-true, eqb-false, eq-eqb, ne-eqb, lt-ltb, leb-false, ltb-false, not-false}
+use borrow.Author.Tests.{eqb-true, eq-eqb, ne-eqb, lt-ltb, leb-false, ltb-false, not-false}
 use Rattle.records.specs.declared.Parameters.{Parameters}
 use Rattle.records.specs.declared.Event.{Event}
 use Rattle.records.specs.Tests.{byPolicy}
 use Rattle.records.specs.Ranges.{inRange, allZero}
-use Rattle.records.proofs.TestLaws.{tests, All, cond-elim, cond-true, cond-false, false-true}
+use Rattle.records.proofs.TestLaws.{tests, cond-elim, cond-true, cond-false, false-true}
 use Rattle.account.specs.declared.Pending.{Pending}
 use Rattle.account.specs.declared.Account.{Account}
 use Rattle.account.specs.declared.Place.the-variants.{Low, Upper}
@@ -22,22 +22,21 @@ use Rattle.ready.specs.Lists.{appended, removed, moved}
 use Rattle.ready.specs.Word.{occupancy}
 use Rattle.ready.proofs.Soundness.{ListsSound}
 use Rattle.ready.proofs.SoundLaws.{withPlace, sound-same, append-sound, remove-sound, move-sound}
-use Rattle.passing.specs.Sequence.{firstOf}
 use Rattle.passing.proofs.SequenceLaws.{firstOf-zero}
 use Rattle.state.specs.declared.Thread.{Thread}
 use Rattle.state.specs.declared.State.{State}
 use Rattle.state.specs.State.{noThread, threadAt, pendingAt, accountAt, assigned, placeOf, place}
 use Rattle.rows.proofs.RowLaws.{row-length}
-use Rattle.state.proofs.SoundLaws.{ThreadSound, SoundFrom, Sound}
+use Rattle.state.proofs.SoundLaws.{ThreadSound, Sound}
 use Rattle.state.proofs.SoundLaws.ThreadSound.{absent, fifo, rr, sporadic}
 use Rattle.ticks.specs.Running.{level, head, idles}
 use Rattle.ticks.proofs.RunLaws.{by-zero, by-one, by-two}
-use Rattle.moments.specs.Changes.{withThread, withLists, withServer, withLeft, withAccount}
+use Rattle.moments.specs.Changes.{withLists, withServer, withAccount}
 use Rattle.moments.proofs.ChangeLaws.{withBound, changed, thread-account}
 use Rattle.moments.proofs.ChargeLaws.{Runs, runs}
 use Rattle.moments.proofs.FireLaws.{bounds-same}
 use Rattle.events.specs.Effects.{withBlocked, fullQuantum, ifSporadic, renewed, newAccount, block, yield, wake, set, byKind, effect}
-use Rattle.events.specs.Answers.{badKind, badThread, badParameters, fieldStatusOf, stateStatusOf, fieldStatus, stateStatus}
+use Rattle.events.specs.Answers.{fieldStatusOf, stateStatusOf, fieldStatus, stateStatus}
 use Rattle.events.proofs.EffectLaws.{Fits, block-fits, quantum-fits, wake-fits, set-fits}
 
 -- a thread that is there has an assigned priority in range

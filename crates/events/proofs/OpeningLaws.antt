@@ -1,25 +1,24 @@
 -- An accepted opening gives a sound state.
 use Prim.Native.Nat.{ℕ, zero, suc, _+_, _-_, _*_, _≤_, _<_}
-use mathlib.Core.Bool.{Bool, true, false, cond, not, _&&_}
+use mathlib.Core.Bool.{Bool, true, false, cond, _&&_}
 use mathlib.Core.Path.{_≡_, refl, sym, ap, _∙_, subst, subst⁻¹}
 use mathlib.Core.List.{List, [], _∷_}
 use lib.ListN.{length, getD, take, drop, replicate, getD-replicate}
 use lib.Dec.{ltb, leb, eqb}
 use native.Mathlib.Omega.{arith}
 use native.Mathlib.Decide.{ℕ-discrete}
-use borrow.Author.Tests.{eqb-true, eqb-false, eq-eqb, ne-eqb, lt-ltb, le-ltb, ltb-true, ltb-false, leb-true}
+use borrow.Author.Tests.{eq-eqb, ne-eqb, lt-ltb, le-ltb, ltb-true, ltb-false, leb-true}
 use Rattle.records.specs.declared.Parameters.{Parameters}
 use Rattle.records.specs.declared.Header.{Header}
-use Rattle.records.specs.Tests.{below, zeros}
+use Rattle.records.specs.Tests.{zeros}
 use Rattle.records.specs.Ranges.{inRange, noParameters}
 use Rattle.records.proofs.TestLaws.{tests, All, below-at, zeros-eq, zeros-drop, zeros-replicate, cond-true, cond-false, false-true}
 use Rattle.account.specs.declared.Pending.{Pending}
-use Rattle.account.specs.declared.Account.{Account}
 use Rattle.ready.specs.Lists.{appended}
 use Rattle.ready.specs.Word.{occupancy}
 use Rattle.ready.proofs.Soundness.{ListsSound}
 use Rattle.ready.proofs.SoundLaws.{withPlace, sound-same, append-sound, empty-sound}
-use Rattle.passing.specs.Sequence.{Answer, firstOf, accepted}
+use Rattle.passing.specs.Sequence.{Answer, accepted}
 use Rattle.passing.proofs.SequenceLaws.{firstOf-zero}
 use Rattle.state.specs.declared.Thread.{Thread}
 use Rattle.state.specs.declared.State.{State}
@@ -27,7 +26,7 @@ use Rattle.rows.specs.Rows.{rowAt}
 use Rattle.state.specs.State.{noThread, threadAt, pendingAt, assigned, placeOf, place}
 use Rattle.state.specs.Sound.{totals, soundState}
 use Rattle.rows.proofs.RowLaws.{row-length}
-use Rattle.state.proofs.SoundLaws.{noPending, ThreadSound, SoundFrom, Sound, sizeTests, state-in}
+use Rattle.state.proofs.SoundLaws.{noPending, ThreadSound, Sound, state-in}
 use Rattle.state.proofs.SoundLaws.ThreadSound.{absent, fifo, rr, sporadic}
 use Rattle.moments.specs.Changes.{withServer, withLists, withAccount}
 use Rattle.moments.proofs.ChangeLaws.{withBound, totals-set, changed-at}

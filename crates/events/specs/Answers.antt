@@ -1,7 +1,7 @@
 -- The answer to an event, as the machine that `passing` speaks of.
 use Prim.Native.Nat.{ℕ}
 use mathlib.Core.Bool.{Bool, cond, not, _&&_}
-use mathlib.Core.List.{List, [], _∷_}
+use mathlib.Core.List.{[], _∷_}
 use lib.Dec.{ltb, leb, eqb}
 use Rattle.records.specs.declared.Event.{Event}
 use Rattle.records.specs.Ranges.{mostReplenishments, lastTime, longestStep, inRange, allZero, noParameters}

@@ -9,7 +9,7 @@ use borrow.Author.Tests.{ne-eqb, eqb-true, eqb-false, not-true, not-false}
 use Rattle.records.specs.declared.Event.{Event}
 use Rattle.records.specs.Ranges.{lastTime, longestStep}
 use Rattle.records.proofs.TestLaws.{tests, cond-false, false-true}
-use Rattle.passing.specs.Sequence.{firstOf, status, accepted, refused, answer}
+use Rattle.passing.specs.Sequence.{firstOf, status, refused}
 use Rattle.passing.specs.Time.{dueBy}
 use Rattle.passing.proofs.TimeLaws.{due-true, sound-advance, now-advance, advance-advance}
 use Rattle.passing.proofs.SequenceLaws.{answer-accepted, answer-refused, unsound-answer, firstOf-zero}

@@ -1,18 +1,16 @@
 -- A state with another thread and account at one place.
-use Prim.Native.Nat.{ℕ, zero, suc, _+_, _-_, _*_, _≤_, _<_}
+use Prim.Native.Nat.{ℕ, zero, suc, _+_, _-_, _*_, _<_}
 use mathlib.Core.Bool.{Bool, true, false, cond}
 use mathlib.Core.Path.{_≡_, refl, sym, ap, ap₂, _∙_, subst, subst⁻¹}
-use mathlib.Core.List.{List, [], _∷_, _++_}
-use lib.ListN.{length, take, drop, getD, set, length-set}
+use mathlib.Core.List.{List, [], _∷_}
+use lib.ListN.{length, getD, set, length-set}
 use lib.Seq.{set-getD, getD-set-same, getD-set-other}
-use lib.Dec.{ltb, leb, eqb}
+use lib.Dec.{ltb, eqb}
 use native.Mathlib.Omega.{arith}
 use native.Mathlib.Decide.{ℕ-discrete}
-use borrow.Author.Tests.{eqb-true, eqb-false, eq-eqb, ne-eqb}
+use borrow.Author.Tests.{eq-eqb, ne-eqb}
 use Rattle.records.proofs.TestLaws.{tests, All, cond-true, cond-false}
-use Rattle.records.proofs.PartLaws.{replaced, replaced-length, replaced-at, replaced-before, replaced-after}
-use Rattle.account.specs.declared.Server.{Server}
-use Rattle.account.specs.declared.Pending.{Pending}
+use Rattle.records.proofs.PartLaws.{replaced-length, replaced-at, replaced-before, replaced-after}
 use Rattle.account.specs.declared.Account.{Account}
 use Rattle.ready.specs.Word.{occupancy}
 use Rattle.ready.proofs.Soundness.{ListsSound}
@@ -20,7 +18,7 @@ use Rattle.ready.proofs.SoundLaws.{withPlace, sound-same}
 use Rattle.state.specs.declared.Thread.{Thread}
 use Rattle.state.specs.declared.State.{State}
 use Rattle.rows.specs.Rows.{rowAt, withRow}
-use Rattle.state.specs.State.{noThread, threadAt, pendingAt, accountAt, placeOf, place}
+use Rattle.state.specs.State.{noThread, threadAt, pendingAt, placeOf, place}
 use Rattle.state.specs.Sound.{totals}
 use Rattle.rows.proofs.RowLaws.{row-same}
 use Rattle.state.proofs.SoundLaws.{ThreadSound, SoundFrom, sizeTests}

@@ -1,7 +1,7 @@
 -- What so many ticks keep.
-use Prim.Native.Nat.{ℕ, zero, suc, _+_, _-_, _*_, _≤_, _<_, min}
+use Prim.Native.Nat.{ℕ, zero, suc, _+_, _-_, _≤_, _<_}
 use mathlib.Core.Bool.{Bool, true, false, cond}
-use mathlib.Core.Path.{_≡_, refl, sym, ap, ap₂, _∙_, subst, subst⁻¹}
+use mathlib.Core.Path.{_≡_, refl, sym, ap, _∙_, subst, subst⁻¹}
 use mathlib.Core.List.{List, [], _∷_}
 use lib.ListN.{length, take, getD, set, length-set}
 use lib.Seq.{getD-set-same, getD-set-other, set-set}
@@ -21,17 +21,15 @@ use Rattle.account.specs.Sound.{runsUpper, dueTests, dueEnd}
 use Rattle.account.proofs.ChargeLaws as account
 use Rattle.account.proofs.SoundLaws.{AccountSound, time-passes, charge-sound, upper-room}
 use Rattle.ready.specs.Word.{highestOf}
-use Rattle.ready.proofs.Soundness.{ListsSound}
-use Rattle.ready.proofs.SoundLaws.{sound-same, HighestSound, highest-sound}
+use Rattle.ready.proofs.SoundLaws.{sound-same, highest-sound}
 use Rattle.state.specs.declared.Thread.{Thread}
 use Rattle.state.specs.declared.State.{State}
 use Rattle.rows.specs.Rows.{rowAt}
-use Rattle.state.specs.State.{noThread, threadAt, pendingAt, accountAt, assigned, placeOf, place}
-use Rattle.state.specs.Sound.{totals}
-use Rattle.state.proofs.SoundLaws.{ThreadSound, SoundFrom, Sound, sizeTests, SporadicTests}
+use Rattle.state.specs.State.{noThread, threadAt, pendingAt, assigned, placeOf, place}
+use Rattle.state.proofs.SoundLaws.{ThreadSound, SoundFrom, Sound}
 use Rattle.state.proofs.SoundLaws.ThreadSound.{absent, fifo, rr, sporadic}
 use Rattle.ticks.specs.declared.Due.{Due}
-use Rattle.ticks.specs.Running.{level, head, idles, ran, charge, earlier, limitOf, limit, nextDue, next}
+use Rattle.ticks.specs.Running.{level, head, idles, ran, charge, earlier, limit, nextDue, next}
 use Rattle.ticks.proofs.RunLaws.{by-zero, by-one, by-two}
 use Rattle.moments.proofs.ChangeLaws.{totals-set}
 use Rattle.moments.proofs.DueLaws.{Found, found, row-first, earlier-left, earlier-right, earlier-above}

@@ -1,24 +1,20 @@
 -- What happens at a moment keeps a state sound.
-use Prim.Native.Nat.{ℕ, zero, suc, _+_, _-_, _*_, _≤_, _<_, min}
+use Prim.Native.Nat.{ℕ, zero, suc, _+_, _-_, _≤_, _<_}
 use mathlib.Core.Bool.{Bool, true, false, cond, _&&_}
-use mathlib.Core.Path.{_≡_, refl, sym, ap, ap₂, _∙_, subst, subst⁻¹}
-use mathlib.Core.List.{List, [], _∷_}
-use lib.ListN.{length, getD, set}
-use lib.Dec.{ltb, leb, eqb}
+use mathlib.Core.Path.{_≡_, refl, sym, ap, _∙_, subst, subst⁻¹}
+use lib.ListN.{getD}
+use lib.Dec.{ltb, eqb}
 use native.Mathlib.Omega.{arith}
 use native.Mathlib.Decide.{ℕ-discrete}
-use borrow.Author.Tests.{eqb-true, eqb-false, eq-eqb, ne-eqb, lt-ltb, le-ltb, ltb-true, ltb-false, leb-false}
-use Rattle.records.specs.declared.Parameters.{Parameters}
+use borrow.Author.Tests.{eq-eqb, ne-eqb, lt-ltb, le-ltb, ltb-false}
 use Rattle.records.specs.declared.Header.{Header}
-use Rattle.records.specs.Tests.{byPolicy}
 use Rattle.records.proofs.TestLaws.{tests, All, cond-elim, policy-elim, cond-true, cond-false, false-true}
 use Rattle.account.specs.declared.Server.{Server}
 use Rattle.account.specs.declared.Pending.{Pending}
-use Rattle.account.specs.declared.Account.{Account}
 use Rattle.account.specs.declared.Outcome.{Outcome}
 use Rattle.account.specs.declared.Place.{Place}
-use Rattle.account.specs.declared.Place.the-variants.{Stays, Low, LowThenUpper, Upper}
-use Rattle.account.specs.Account.{atUpper, isUpper}
+use Rattle.account.specs.declared.Place.the-variants.{Stays, Upper}
+use Rattle.account.specs.Account.{atUpper}
 use Rattle.account.specs.Rules.{limitReached, firstIsDue, returning}
 use Rattle.account.specs.Sound.{runsUpper}
 use Rattle.account.proofs.RuleLaws.{due-some}
@@ -30,13 +26,12 @@ use Rattle.ready.proofs.Soundness.{ListsSound}
 use Rattle.ready.proofs.SoundLaws.{withPlace, sound-same, move-sound}
 use Rattle.state.specs.declared.Thread.{Thread}
 use Rattle.state.specs.declared.State.{State}
-use Rattle.rows.specs.Rows.{rowAt}
-use Rattle.state.specs.State.{noServer, noThread, threadAt, pendingAt, accountAt, assigned, placeOf, place}
-use Rattle.state.proofs.SoundLaws.{noPending, ThreadSound, SoundFrom, Sound, sizeTests, SporadicTests}
+use Rattle.state.specs.State.{threadAt, pendingAt, accountAt, placeOf, place}
+use Rattle.state.proofs.SoundLaws.{ThreadSound, SoundFrom, Sound, SporadicTests}
 use Rattle.state.proofs.SoundLaws.ThreadSound.{absent, fifo, rr, sporadic}
 use Rattle.ticks.specs.Running.{level, head, idles}
-use Rattle.ticks.proofs.RunLaws.{by-zero, by-one, by-two}
-use Rattle.moments.specs.Changes.{withThread, withLists, withServer, withAccount, sentTo, withOutcome}
+use Rattle.ticks.proofs.RunLaws.{by-two}
+use Rattle.moments.specs.Changes.{withLists, withServer, withAccount, sentTo, withOutcome}
 use Rattle.moments.specs.Moments.{quantumEnded, limitsOf, limits, replenish, replenishBelow, fire}
 use Rattle.moments.proofs.ChangeLaws.{withBound, changed}
 

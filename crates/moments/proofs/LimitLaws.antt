@@ -1,24 +1,23 @@
 -- The limit and the end of a quantum, at their instant.
-use Prim.Native.Nat.{ℕ, zero, suc, _+_, _-_, _*_, _≤_, _<_, min}
+use Prim.Native.Nat.{ℕ, _+_, _-_, _≤_, _<_}
 use mathlib.Core.Bool.{Bool, true, false, cond, _&&_}
-use mathlib.Core.Path.{_≡_, refl, sym, ap, ap₂, _∙_, subst, subst⁻¹}
-use mathlib.Core.List.{List, [], _∷_}
-use lib.ListN.{length, take, getD, set, length-set}
+use mathlib.Core.Path.{_≡_, refl, sym, ap, _∙_, subst, subst⁻¹}
+use mathlib.Core.List.{List}
+use lib.ListN.{length, getD, set, length-set}
 use lib.Seq.{getD-set-same, getD-set-other, set-set}
-use lib.Dec.{ltb, leb, eqb}
+use lib.Dec.{ltb, eqb}
 use native.Mathlib.Omega.{arith}
 use native.Mathlib.Decide.{ℕ-discrete}
-use borrow.Author.Tests.{eqb-true, eqb-false, eq-eqb, ne-eqb, lt-ltb, ltb-true}
+use borrow.Author.Tests.{eqb-true, eq-eqb, ne-eqb}
 use Rattle.records.specs.declared.Parameters.{Parameters}
-use Rattle.records.specs.Tests.{byPolicy}
-use Rattle.records.proofs.TestLaws.{tests, All, cond-true, cond-false, false-true}
+use Rattle.records.proofs.TestLaws.{tests, All, cond-true, cond-false}
 use Rattle.account.specs.declared.Server.{Server}
 use Rattle.account.specs.declared.Pending.{Pending}
 use Rattle.account.specs.declared.Account.{Account}
 use Rattle.account.specs.declared.Outcome.{Outcome}
 use Rattle.account.specs.declared.Place.{Place}
-use Rattle.account.specs.declared.Place.the-variants.{Stays, Low, LowThenUpper, Upper}
-use Rattle.account.specs.Account.{atUpper, isUpper, firstDue}
+use Rattle.account.specs.declared.Place.the-variants.{Low, LowThenUpper}
+use Rattle.account.specs.Account.{isUpper}
 use Rattle.account.specs.Rules.{charged, dueNow, limitReached}
 use Rattle.account.specs.Sound.{runsUpper}
 use Rattle.account.proofs.SoundLaws.{AccountSound, charge-sound, upper-room, Sent, limit-once-sound, limit-later-sound}
@@ -30,16 +29,15 @@ use Rattle.state.specs.declared.Thread.{Thread}
 use Rattle.state.specs.declared.State.{State}
 use Rattle.rows.specs.Rows.{rowAt}
 use Rattle.state.specs.State.{noServer, noThread, threadAt, pendingAt, accountAt, assigned, placeOf, place}
-use Rattle.state.specs.Sound.{totals}
 use Rattle.rows.proofs.RowLaws.{row-length}
-use Rattle.state.proofs.SoundLaws.{noPending, ThreadSound, SoundFrom, Sound, sizeTests, RrTests, SporadicTests}
+use Rattle.state.proofs.SoundLaws.{noPending, ThreadSound, SoundFrom, sizeTests, RrTests, SporadicTests}
 use Rattle.state.proofs.SoundLaws.ThreadSound.{absent, fifo, rr, sporadic}
-use Rattle.ticks.specs.Running.{level, head, idles, ran, charge, limitOf, limit, next}
+use Rattle.ticks.specs.Running.{level, head, idles, ran, charge}
 use Rattle.ticks.proofs.RunLaws.{by-zero, by-one, by-two}
-use Rattle.moments.specs.Changes.{withThread, withLists, withServer, withLeft, withAccount, sentTo, withOutcome}
-use Rattle.moments.specs.Moments.{quantumEnded, limitsOf, limits}
+use Rattle.moments.specs.Changes.{withLists, withServer, withLeft, withAccount, sentTo, withOutcome}
+use Rattle.moments.specs.Moments.{limitsOf, limits}
 use Rattle.moments.proofs.ChangeLaws.{withBound, totals-set, changed-at, thread-account}
-use Rattle.moments.proofs.ChargeLaws.{Runs, runs, Within, upper-at, ran-upper, ran-low, first-bound, wait-thread, lasts}
+use Rattle.moments.proofs.ChargeLaws.{Runs, runs, upper-at, ran-upper, first-bound, wait-thread}
 
 -- ---- nothing happens where nothing is used up
 

@@ -1,28 +1,24 @@
 -- The seven laws of the passing of time, at the executive's state.
-use Prim.Native.Nat.{ℕ, zero, suc, _+_, _-_, _*_, _≤_, _<_, min}
+use Prim.Native.Nat.{ℕ, zero, suc, _+_, _-_, _≤_, _<_}
 use mathlib.Core.Bool.{Bool, true, false, cond}
 use mathlib.Core.Path.{_≡_, refl, sym, ap, _∙_, subst, subst⁻¹}
-use mathlib.Core.List.{List}
 use lib.ListN.{getD}
 use lib.Dec.{ltb, eqb}
 use native.Mathlib.Omega.{arith}
 use native.Mathlib.Decide.{ℕ-discrete}
-use borrow.Author.Tests.{eqb-true, eqb-false, eq-eqb, ne-eqb}
 use Rattle.records.specs.declared.Header.{Header}
 use Rattle.records.specs.Tests.{byPolicy}
-use Rattle.records.proofs.TestLaws.{tests, cond-true, cond-false, false-true}
-use Rattle.account.specs.declared.Pending.{Pending}
+use Rattle.records.proofs.TestLaws.{cond-true, cond-false, false-true}
 use Rattle.passing.specs.Time.{moment}
 use Rattle.passing.proofs.TimeLaws.{Laws}
 use Rattle.state.specs.declared.Thread.{Thread}
 use Rattle.state.specs.declared.State.{State}
 use Rattle.rows.specs.Rows.{rowAt}
-use Rattle.state.specs.State.{noThread, threadAt, pendingAt}
+use Rattle.state.specs.State.{threadAt, pendingAt}
 use Rattle.state.specs.Sound.{soundState}
 use Rattle.state.proofs.SoundLaws.{ThreadSound, SoundFrom, Sound, state-in, state-out}
 use Rattle.state.proofs.SoundLaws.ThreadSound.{absent, fifo, rr, sporadic}
-use Rattle.ticks.specs.Running.{level, head, idles, charge, earlier, limitOf, limit, nextDue, next}
-use Rattle.ticks.proofs.RunLaws.{by-zero, by-one, by-two}
+use Rattle.ticks.specs.Running.{level, head, idles, charge, limitOf, limit, nextDue, next}
 use Rattle.moments.specs.Moments.{limits, replenishBelow, fire, clock}
 use Rattle.moments.proofs.ChangeLaws.{withBound}
 use Rattle.moments.proofs.DueLaws.{earlier-left}

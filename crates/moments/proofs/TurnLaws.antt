@@ -15,7 +15,7 @@ use Rattle.records.specs.Tests.{byPolicy}
 use Rattle.records.proofs.TestLaws.{tests, cond-true, cond-false}
 use Rattle.account.specs.declared.Pending.{Pending}
 use Rattle.account.specs.Rules.{charged, firstIsDue}
-use Rattle.passing.specs.Time.{dueBy, moment}
+use Rattle.passing.specs.Time.{dueBy}
 use Rattle.passing.proofs.TimeLaws.{due-false, due-yes, advance-rest, advance-due}
 use Rattle.state.specs.declared.Thread.{Thread}
 use Rattle.state.specs.declared.State.{State}

@@ -1,6 +1,6 @@
 -- What happens at a moment, and the passing of time.
 use Prim.Native.Nat.{ℕ, zero, suc}
-use mathlib.Core.Bool.{Bool, false, cond, _&&_}
+use mathlib.Core.Bool.{false, cond, _&&_}
 use lib.Dec.{eqb}
 use Rattle.records.specs.Tests.{byPolicy}
 use Rattle.account.specs.Rules.{limitReached, firstIsDue, returning}

@@ -5,7 +5,7 @@ use mathlib.Core.Bool.{Bool, true, false, cond}
 use Prim.Native.Nat.{ℕ, suc, _+_, _-_, _≤_, _<_}
 use native.Mathlib.Omega.{arith}
 use lib.ListN.{length, set, take, drop, getD, replicate, length-append, length-take, length-drop, length-set, length-replicate, take-append-drop}
-use lib.Seq.{set-at, set-append-left, append-snoc, length-take-le, take-at, drop-at, take-append-le, drop-append-le, take-append-add}
+use lib.Seq.{set-at, set-append-left, append-snoc, length-take-le, take-at, take-append-le, drop-append-le, take-append-add}
 use lib.Seq.{drop-append-add, take-append-seam, drop-append-seam, take-length, drop-length, drop-drop, getD-take, getD-drop}
 use lib.Dec.{ltb, eqb}
 use borrow.Author.Tests.{ltb-true, ltb-false}

@@ -1,29 +1,25 @@
 -- Soundness of a state as a proposition, and that the test decides it.
-use Prim.Native.Nat.{ℕ, zero, suc, _+_, _-_, _*_, _≤_, _<_}
-use mathlib.Core.Bool.{Bool, true, false, cond, not}
-use mathlib.Core.Path.{_≡_, refl, sym, ap, ap₂, _∙_, subst, subst⁻¹}
-use mathlib.Core.List.{List, [], _∷_, _++_}
-use lib.ListN.{length, take, drop, getD, replicate, length-drop}
-use lib.Seq.{length-take-le}
+use Prim.Native.Nat.{ℕ, zero, suc, _+_, _-_, _≤_, _<_}
+use mathlib.Core.Bool.{Bool, true, false, cond}
+use mathlib.Core.Path.{_≡_, refl, ap, _∙_, subst, subst⁻¹}
+use mathlib.Core.List.{List, [], _∷_}
+use lib.ListN.{length, replicate}
 use lib.Dec.{ltb, leb, eqb}
 use native.Mathlib.Omega.{arith}
-use borrow.Author.Tests.{eqb-true, eq-eqb, lt-ltb, not-true}
+use borrow.Author.Tests.{eqb-true, eq-eqb, not-true}
 use Rattle.records.specs.declared.Parameters.{Parameters}
-use Rattle.records.specs.Tests.{all, below, zeros, byPolicy}
+use Rattle.records.specs.Tests.{all, zeros, byPolicy}
 use Rattle.records.specs.Ranges.{inRange, allZero, fifoInRange, rrInRange, sporadicInRange, noParameters}
-use Rattle.records.proofs.TestLaws.{tests, All, all-true, true-all, below-at, at-below, zeros-eq, zeros-replicate, false-true, cond-true, cond-false}
+use Rattle.records.proofs.TestLaws.{tests, All, all-true, true-all, below-at, at-below, zeros-eq, cond-true, cond-false}
 use Rattle.account.specs.declared.Server.{Server}
 use Rattle.account.specs.declared.Pending.{Pending}
-use Rattle.account.specs.declared.Account.{Account}
 use Rattle.account.specs.Sound.{soundAt, runsUpper}
 use Rattle.account.proofs.SoundLaws.{AccountSound, sound-in, sound-out}
-use Rattle.ready.specs.Sound.{soundLists}
 use Rattle.ready.proofs.Soundness.{ListsSound, sound-true, true-sound}
 use Rattle.rows.proofs.RowLaws.{row-length}
 use Rattle.state.specs.declared.Thread.{Thread}
 use Rattle.state.specs.declared.State.{State}
-use Rattle.rows.specs.Rows.{rowAt}
-use Rattle.state.specs.State.{noServer, noThread, threadAt, pendingAt, accountAt, place}
+use Rattle.state.specs.State.{noServer, noThread, threadAt, pendingAt, place}
 use Rattle.state.specs.Sound.{noAccountTests, leftTests, accountTest, presentTest, absentTest, threadTest, totals, soundTests, soundState}
 
 -- nothing pending

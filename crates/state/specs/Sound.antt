@@ -1,14 +1,13 @@
 -- When a state is sound (State 5 to 17), as tests that compute.
 use Prim.Native.Nat.{ℕ, _+_}
-use mathlib.Core.Bool.{Bool, false, cond, not}
-use mathlib.Core.List.{List, [], _∷_, _++_}
+use mathlib.Core.Bool.{Bool, cond, not}
+use mathlib.Core.List.{List, [], _∷_}
 use lib.ListN.{length}
 use lib.Dec.{ltb, leb, eqb}
 use Rattle.records.specs.Tests.{all, below, zeros, byPolicy}
 use Rattle.records.specs.Ranges.{mostThreads, mostReplenishments, lastTime, inRange, allZero}
 use Rattle.account.specs.declared.Server.{Server}
 use Rattle.account.specs.declared.Pending.{Pending}
-use Rattle.account.specs.declared.Account.{Account}
 use Rattle.account.specs.Sound.{soundAt}
 use Rattle.ready.specs.Sound.{soundLists}
 use Rattle.state.specs.declared.Thread.{Thread}

@@ -1,15 +1,13 @@
 -- The state (State 1 to 4) and its parts.
-use Prim.Native.Nat.{ℕ, _+_, _*_}
-use mathlib.Core.Bool.{Bool, false, cond}
-use mathlib.Core.List.{List, _++_}
-use lib.ListN.{length, take, drop, getD, set}
-use Rattle.records.specs.declared.Header.{Header}
+use Prim.Native.Nat.{ℕ}
+use mathlib.Core.Bool.{false, cond}
+use lib.ListN.{getD}
 use Rattle.records.specs.Tests.{byPolicy}
 use Rattle.records.specs.Ranges.{noParameters}
 use Rattle.account.specs.declared.Server.{Server}
 use Rattle.account.specs.declared.Pending.{Pending}
 use Rattle.account.specs.declared.Account.{Account}
-use Rattle.account.specs.Account.{entries, atUpper}
+use Rattle.account.specs.Account.{atUpper}
 use Rattle.rows.specs.Rows.{rowAt}
 use Rattle.state.specs.declared.Thread.{Thread}
 use Rattle.state.specs.declared.State.{State}

@@ -1,10 +1,10 @@
 -- `account::all_back` meets its contract.
-use Prim.Native.Nat.{ℕ, suc, _-_, _<_}
-use mathlib.Core.Path.{_≡_, refl, sym, ap, _∙_}
+use Prim.Native.Nat.{_-_}
+use mathlib.Core.Path.{_≡_, refl, sym, _∙_}
 use native.Mathlib.Omega.{arith}
 use borrow.Author.Needs.{needs}
-use Rattle.account.specs.Rules.{allBack, firstBack}
-use Rattle.account.proofs.RuleLaws.{back-due, back-done, back-one, due-some}
+use Rattle.account.specs.Rules.{allBack}
+use Rattle.account.proofs.RuleLaws.{back-done, back-one, due-some}
 use Rattle.account.proofs.all_back.Statement.{statement}
 use Rattle.account.proofs.all_back.Tie as tie
 

@@ -1,5 +1,5 @@
 -- `account::due_by` meets its contract: the sum is compared by a difference, so that nothing wraps.
-use Prim.Native.Nat.{_+_, _-_, _≤_}
+use Prim.Native.Nat.{_-_}
 use mathlib.Core.Path.{sym}
 use native.Mathlib.Omega.{arith}
 use borrow.Author.Tests.{lt-leb}

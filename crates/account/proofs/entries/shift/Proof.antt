@@ -1,8 +1,7 @@
 -- `account::entries::shift` meets its contract. The invariant: the first i numbers are moved one place up.
-use Prim.Native.Nat.{ℕ, _+_, _-_, _≤_, _<_}
-use mathlib.Core.Path.{_≡_, refl, _∙_, ap}
+use Prim.Native.Nat.{_-_, _<_}
+use mathlib.Core.Path.{_≡_, refl}
 use native.Mathlib.Omega.{arith}
-use lib.ListN.{length}
 use Rattle.account.proofs.EntryLaws.{movedUp, shift-turn, shift-end}
 use Rattle.account.proofs.entries.shift.Statement.{statement}
 use Rattle.account.proofs.entries.shift.Tie as tie

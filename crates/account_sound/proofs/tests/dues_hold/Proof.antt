@@ -1,9 +1,8 @@
 -- `account_sound::tests::dues_hold` meets its contract.
-use Prim.Native.Nat.{ℕ, _+_, _-_, _≤_, _<_}
-use mathlib.Core.Bool.{Bool, true, false}
+use Prim.Native.Nat.{ℕ, _+_, _-_, _≤_}
 use mathlib.Core.Path.{_≡_, refl, sym, ap, _∙_}
-use mathlib.Core.List.{List, [], _∷_}
-use lib.ListN.{length, take, drop, getD}
+use mathlib.Core.List.{List}
+use lib.ListN.{take, drop}
 use native.Mathlib.Omega.{arith}
 use Rattle.records.specs.Tests.{all}
 use Rattle.account.specs.Sound.{dueTests}

@@ -1,5 +1,5 @@
 -- `executive::effects::shift` meets its contract.
-use mathlib.Core.Path.{sym, ap, _∙_}
+use mathlib.Core.Path.{ap, _∙_}
 use Rattle.ready.specs.Word.{occupancy}
 use Rattle.executive.proofs.ShiftLaws.{shift-none, shift-joins, shift-leaves, shift-moves}
 use Rattle.executive.proofs.effects.shift.Statement.{statement}

@@ -1,7 +1,6 @@
 -- `executive_vectors::compare::same_numbers` is safe and ends.
 use Prim.Native.Nat.{_-_, _≤_}
 use native.Mathlib.Omega.{arith}
-use borrow.Author.Needs.{needs}
 use Rattle.executive_vectors.proofs.compare.same_numbers.Statement.{statement}
 use Rattle.executive_vectors.proofs.compare.same_numbers.Tie as tie
 

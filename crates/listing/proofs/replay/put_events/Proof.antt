@@ -1,14 +1,14 @@
 -- `listing::replay::put_events` meets its contract: the lines so far and those of the events that are left are all.
-use Prim.Native.Nat.{ℕ, suc, _+_, _-_, _*_, _≤_}
+use Prim.Native.Nat.{suc, _+_, _-_, _*_, _≤_}
 use mathlib.Core.Bool.{true}
-use mathlib.Core.Path.{_≡_, refl, sym, ap, _∙_}
+use mathlib.Core.Path.{_≡_, refl, sym, _∙_}
 use native.Mathlib.Omega.{arith}
 use lib.ListN.{length}
 use borrow.Author.Tests.{not-true, not-false}
 use Rattle.state.specs.Sound.{soundState}
 use Rattle.steps.specs.Steps.{answersFrom, endFrom}
 use Rattle.steps.proofs.FileLaws.{goes-on, stops-here, none-left}
-use Rattle.listing.specs.Lines.{eventLine, eventLines}
+use Rattle.listing.specs.Lines.{eventLines}
 use Rattle.listing.proofs.PrintLaws.{Printed, printed-none, printed-next, printed-all, line-next, line-none}
 use Rattle.listing.proofs.replay.put_events.Statement.{statement}
 use Rattle.listing.proofs.replay.put_events.Tie as tie
