@@ -23,7 +23,7 @@ use Rattle.state.specs.State.{assigned}
 use Rattle.state.proofs.SoundLaws.{ThreadSound, range-out, fifo-out, rr-out, sporadic-out}
 use Rattle.state.proofs.SoundLaws.ThreadSound.{absent, fifo, rr, sporadic}
 use Rattle.ticks.proofs.RunLaws.{by-zero, by-one, by-two}
-use Rattle.moments.specs.Changes.{withServer}
+use Rattle.state.specs.State.{withServer}
 use Rattle.events.specs.Effects.{withBlocked, fullQuantum, ifSporadic, noAccount, renewed, newAccount}
 
 -- a thread and an account that fit a place of a sound state

@@ -31,7 +31,8 @@ use Rattle.state.proofs.SoundLaws.{ThreadSound, Sound}
 use Rattle.state.proofs.SoundLaws.ThreadSound.{absent, fifo, rr, sporadic}
 use Rattle.ticks.specs.Running.{level, head, idles}
 use Rattle.ticks.proofs.RunLaws.{by-zero, by-one, by-two}
-use Rattle.moments.specs.Changes.{withLists, withServer, withAccount}
+use Rattle.state.specs.State.{withServer}
+use Rattle.moments.specs.Changes.{withLists, withAccount}
 use Rattle.moments.proofs.ChangeLaws.{withBound, changed, thread-account}
 use Rattle.moments.proofs.ChargeLaws.{Runs, runs}
 use Rattle.moments.proofs.FireLaws.{bounds-same}

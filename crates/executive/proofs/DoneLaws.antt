@@ -23,7 +23,8 @@ use Rattle.state.specs.State.{threadAt, pendingAt, accountAt, assigned, place}
 use Rattle.state.specs.Sound.{soundState}
 use Rattle.state.proofs.SoundLaws.{Sound, range-out, state-out}
 use Rattle.ticks.specs.Running.{level, head, idles}
-use Rattle.moments.specs.Changes.{withLists, withServer, withAccount}
+use Rattle.state.specs.State.{withServer}
+use Rattle.moments.specs.Changes.{withLists, withAccount}
 use Rattle.moments.proofs.ChangeLaws.{thread-account}
 use Rattle.moments.proofs.ChargeLaws.{Runs, runs}
 use Rattle.events.specs.Effects.{withBlocked, fullQuantum, ifSporadic, renewed, newAccount, set, effect}

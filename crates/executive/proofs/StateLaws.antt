@@ -11,7 +11,8 @@ use Rattle.state.specs.declared.State.{State}
 use Rattle.rows.specs.Rows.{withRow}
 use Rattle.state.specs.State.{threadAt}
 use Rattle.ticks.specs.Running.{level, head}
-use Rattle.moments.specs.Changes.{withLists, withServer, withAccount}
+use Rattle.state.specs.State.{withServer}
+use Rattle.moments.specs.Changes.{withLists, withAccount}
 use Rattle.events.specs.Effects.{block, yield, wake, set, byKind, effect}
 
 module _ (s : State) where

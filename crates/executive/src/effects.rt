@@ -24,7 +24,7 @@ pub(super) fn put(s0: State, i: usize, t: Thread, a: Account) -> State
     let q = a.pending;
     let dues = q.dues;
     let amounts = q.amounts;
-    s.threads[i] = parts::with_server(t, v);
+    s.threads[i] = state::with_server(t, v);
     s.counts[i] = q.count;
     rows::write_row(&mut s.dues, i, dues);
     rows::write_row(&mut s.amounts, i, amounts);

@@ -168,7 +168,7 @@ fn run(mut s: State, e: Event, known: bool) -> Answer
         let pending = b.pending;
         let dues = pending.dues;
         let amounts = pending.amounts;
-        let changed = parts::with_server(u, served);
+        let changed = state::with_server(u, served);
         s.threads[j] = changed;
         s.counts[j] = pending.count;
         rows::write_row(&mut s.dues, j, dues);

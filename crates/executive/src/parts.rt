@@ -6,7 +6,6 @@ ghost use Prim.Native.Nat.{_+_, _<_, _^_};
 ghost use Rattle.records.specs.Tests.{byPolicy};
 ghost use Rattle.records.specs.Ranges.{inRange, allZero};
 ghost use Rattle.account.specs.Rules.{blocking, waking};
-ghost use Rattle.moments.specs.Changes.{withServer};
 ghost use Rattle.events.specs.Effects.{withBlocked, fullQuantum, ifSporadic, renewed, newAccount};
 ghost use Rattle.events.specs.Answers.{fieldStatusOf, stateStatusOf};
 use account::Account;
@@ -210,18 +209,4 @@ fn when(test: bool, n: u8) -> u8
         return n;
     }
     0
-}
-
-// A thread with another server.
-pub(super) fn with_server(t: Thread, v: Server) -> Thread
-    ensures { λ r. ⌜ r ≡ withServer v t ⌝ }
-{
-    let p = t.parameters;
-    Thread {
-        parameters: p,
-        blocked: t.blocked,
-        total: t.total,
-        left: t.left,
-        server: v,
-    }
 }

@@ -26,7 +26,8 @@ use Rattle.state.specs.State.{threadAt, pendingAt, accountAt}
 use Rattle.rows.proofs.RowLaws.{row-length}
 use Rattle.ticks.specs.declared.Due.{Due}
 use Rattle.ticks.specs.Running.{level, head, ran, charge, limit, nextDue, next}
-use Rattle.moments.specs.Changes.{withServer, withLeft, sentTo, entriesAfter, withOutcome}
+use Rattle.state.specs.State.{withServer}
+use Rattle.moments.specs.Changes.{withLeft, sentTo, entriesAfter, withOutcome}
 use Rattle.moments.specs.Moments.{quantumEnded, limits, passed}
 use Rattle.moments.proofs.DueLaws.{found, row-first, earlier-left}
 use Rattle.moments.proofs.InsertLaws.{afterLimit, after-limit-is, limit-entries}

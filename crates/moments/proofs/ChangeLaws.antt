@@ -22,7 +22,8 @@ use Rattle.state.specs.State.{noThread, threadAt, pendingAt, placeOf, place}
 use Rattle.state.specs.Sound.{totals}
 use Rattle.rows.proofs.RowLaws.{row-same}
 use Rattle.state.proofs.SoundLaws.{ThreadSound, SoundFrom, sizeTests}
-use Rattle.moments.specs.Changes.{withThread, withLists, withServer, withAccount}
+use Rattle.state.specs.State.{withServer}
+use Rattle.moments.specs.Changes.{withThread, withLists, withAccount}
 
 -- ---- rows
 

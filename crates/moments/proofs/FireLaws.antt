@@ -31,7 +31,8 @@ use Rattle.state.proofs.SoundLaws.{ThreadSound, SoundFrom, Sound, SporadicTests
 use Rattle.state.proofs.SoundLaws.ThreadSound.{absent, fifo, rr, sporadic}
 use Rattle.ticks.specs.Running.{level, head, idles}
 use Rattle.ticks.proofs.RunLaws.{by-two}
-use Rattle.moments.specs.Changes.{withLists, withServer, withAccount, sentTo, withOutcome}
+use Rattle.state.specs.State.{withServer}
+use Rattle.moments.specs.Changes.{withLists, withAccount, sentTo, withOutcome}
 use Rattle.moments.specs.Moments.{quantumEnded, limitsOf, limits, replenish, replenishBelow, fire}
 use Rattle.moments.proofs.ChangeLaws.{withBound, changed}
 

@@ -34,7 +34,8 @@ use Rattle.state.proofs.SoundLaws.{noPending, ThreadSound, SoundFrom, sizeTests
 use Rattle.state.proofs.SoundLaws.ThreadSound.{absent, fifo, rr, sporadic}
 use Rattle.ticks.specs.Running.{level, head, idles, ran, charge}
 use Rattle.ticks.proofs.RunLaws.{by-zero, by-one, by-two}
-use Rattle.moments.specs.Changes.{withLists, withServer, withLeft, withAccount, sentTo, withOutcome}
+use Rattle.state.specs.State.{withServer}
+use Rattle.moments.specs.Changes.{withLists, withLeft, withAccount, sentTo, withOutcome}
 use Rattle.moments.specs.Moments.{limitsOf, limits}
 use Rattle.moments.proofs.ChangeLaws.{withBound, totals-set, changed-at, thread-account}
 use Rattle.moments.proofs.ChargeLaws.{Runs, runs, upper-at, ran-upper, first-bound, wait-thread}

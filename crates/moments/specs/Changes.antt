@@ -5,7 +5,6 @@ use mathlib.Core.List.{List}
 use lib.ListN.{set}
 use lib.Dec.{eqb}
 use Rattle.records.specs.declared.Parameters.{Parameters}
-use Rattle.account.specs.declared.Server.{Server}
 use Rattle.account.specs.declared.Pending.{Pending}
 use Rattle.account.specs.declared.Account.{Account}
 use Rattle.account.specs.declared.Outcome.{Outcome}
@@ -17,7 +16,7 @@ use Rattle.ready.specs.Word.{occupancy}
 use Rattle.state.specs.declared.Thread.{Thread}
 use Rattle.state.specs.declared.State.{State}
 use Rattle.rows.specs.Rows.{withRow}
-use Rattle.state.specs.State.{threadAt}
+use Rattle.state.specs.State.{withServer, threadAt}
 
 abbrev pub withThread : ℕ → Thread → State → State
 withThread i t s =
@@ -47,9 +46,6 @@ withLists l s =
       amounts = s .amounts;
       lists = l;
     }
-
-abbrev pub withServer : Server → Thread → Thread
-withServer v t = record { parameters = t .parameters; blocked = t .blocked; total = t .total; left = t .left; server = v }
 
 abbrev pub withLeft : ℕ → Thread → Thread
 withLeft n t = record { parameters = t .parameters; blocked = t .blocked; total = t .total; left = n; server = t .server }

@@ -12,11 +12,10 @@ ghost use Rattle.ready.specs.Rules.{Movable};
 ghost use Rattle.rows.specs.Rows.{rowAt, withRow};
 ghost use Rattle.state.specs.Sound.{soundState};
 ghost use Rattle.ticks.specs.Running.{earlier};
-ghost use Rattle.moments.specs.Changes.{withServer, withLeft, sentTo, countAfter, rowAfter};
+ghost use Rattle.moments.specs.Changes.{withLeft, sentTo, countAfter, rowAfter};
 ghost use Rattle.moments.specs.Moments.{passed};
 use account::Effect;
 use account::Place;
-use account::Server;
 use records::Parameters;
 use state::State;
 use state::Thread;
@@ -45,20 +44,6 @@ fn refilled(t: Thread) -> Thread
         blocked: t.blocked,
         total: t.total,
         left: q.budget,
-        server: v,
-    }
-}
-
-// A thread with another server.
-fn with_server(t: Thread, v: Server) -> Thread
-    ensures { λ r. ⌜ r ≡ withServer v t ⌝ }
-{
-    let q = t.parameters;
-    Thread {
-        parameters: q,
-        blocked: t.blocked,
-        total: t.total,
-        left: t.left,
         server: v,
     }
 }
@@ -217,7 +202,7 @@ pub fn advance(s0: State, t: u64) -> State
         let parameters = w.parameters;
         let word = s.word;
         let number = narrow(j);
-        let changed = with_server(w, served);
+        let changed = state::with_server(w, served);
         s.threads[j] = changed;
         s.word = send(&mut s.lists, word, number, parameters, place);
         let pending = count_after(limited, amount, count);

@@ -23,6 +23,10 @@ noThread = record { parameters = noParameters; blocked = false; total = 0; left 
 abbrev pub threadAt : State → ℕ → Thread
 threadAt s i = getD (s .threads) i noThread
 
+-- a thread with another server
+abbrev pub withServer : Server → Thread → Thread
+withServer v t = record { parameters = t .parameters; blocked = t .blocked; total = t .total; left = t .left; server = v }
+
 -- State 2: the pending replenishments and the account of thread i
 abbrev pub pendingAt : State → ℕ → Pending
 pendingAt s i = record { count = getD (s .counts) i 0; dues = rowAt i (s .dues); amounts = rowAt i (s .amounts) }

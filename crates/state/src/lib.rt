@@ -1,7 +1,7 @@
 // The executive's state, by value, and when it is sound.
 ghost use mathlib.Core.Path.{_≡_};
 ghost use lib.ListN.{length};
-ghost use Rattle.state.specs.State.{placeOf};
+ghost use Rattle.state.specs.State.{withServer, placeOf};
 ghost use Rattle.state.specs.Sound.{soundState};
 use account::Server;
 use records::Header;
@@ -33,6 +33,20 @@ pub struct State {
     pub dues: [u64; 256],
     pub amounts: [u64; 256],
     pub lists: [u8; 1056],
+}
+
+// A thread with another server.
+pub fn with_server(t: Thread, v: Server) -> Thread
+    ensures { λ r. ⌜ r ≡ withServer v t ⌝ }
+{
+    let q = t.parameters;
+    Thread {
+        parameters: q,
+        blocked: t.blocked,
+        total: t.total,
+        left: t.left,
+        server: v,
+    }
 }
 
 // The list in which a thread stands that has `count` replenishments pending, 0 for none.
