@@ -8,7 +8,10 @@ fn main() {
     for name in ["board", "board_trace"] {
         let archive = folder.join(format!("lib{name}.a"));
         if !archive.exists() {
-            panic!("{} is missing: run `rt staticlib {name}` first", archive.display());
+            panic!(
+                "{} is missing: run `rt staticlib {name}` first",
+                archive.display()
+            );
         }
         println!("cargo:rerun-if-changed={}", archive.display());
         println!("cargo:rustc-link-lib=static={name}");

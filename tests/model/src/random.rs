@@ -2,9 +2,23 @@
 //! tables, events and made-up states, with numbers kept small and instants
 //! often shared so that limits, quanta and dues collide.
 
-use crate::event::{next_moment, Event};
-use crate::state::{assigned, Parameters, State};
-use crate::{FIFO, MAX_STEP, MAX_TICKS, MAX_TIME, PENDING, RR, SET, SPORADIC, THREADS, WAKE};
+use crate::event::{next_moment, running, Event};
+use crate::state::{assigned, Parameters, State, Thread};
+use crate::{BLOCK, CLOCK, FIFO, MAX_STEP, MAX_TICKS, MAX_TIME, NOBODY, PENDING, RR, SET};
+use crate::{SPORADIC, THREADS, WAKE, YIELD};
+
+/// What the events of a case aim at.
+#[derive(Clone, Copy, Debug, PartialEq, Eq)]
+pub enum Aim {
+    /// All kinds, at all sorts of times.
+    Any,
+    /// More blocks than wakes, so that often nothing runs.
+    Idle,
+    /// Short runs that end in a block, so that replenishments pile up.
+    Pending,
+    /// Times at which something happens.
+    Instants,
+}
 
 /// Splitmix64.
 #[derive(Clone, Debug)]
@@ -67,13 +81,12 @@ impl Random {
     }
 
     /// A number of ticks from 1 on, small for the most part.
-    fn ticks(&mut self, most: u64) -> u64 {
-        let n = match self.below(8) {
+    fn ticks(&mut self) -> u64 {
+        match self.below(8) {
             0..=4 => self.between(1, 12),
             5 | 6 => self.between(1, 60),
-            _ => self.pick(&[1_000, 500_000, 1_000_000, MAX_TICKS]),
-        };
-        n.min(most)
+            _ => 10u64.pow(self.between(3, 9) as u32) - self.below(2),
+        }
     }
 
     /// Parameters in range, flag 0.
@@ -90,32 +103,26 @@ impl Random {
         };
         match policy {
             FIFO => {}
-            RR => p.budget = self.ticks(MAX_TICKS),
+            RR => p.budget = self.ticks(),
             _ => {
                 p.priority = p.priority.max(2);
                 p.low = self.between(1, p.priority as u64 - 1) as u8;
                 if self.one_in(2) {
                     p.low = 1;
                 }
-                p.max_repl = self.pick(&[1, 1, 2, 2, 3, 4, 8]) as u8;
-                p.period = self.ticks(MAX_TICKS);
-                p.budget = if self.one_in(6) {
-                    p.period
-                } else {
-                    self.ticks(p.period)
-                };
+                p.max_repl = self.pick(&[1, 1, 2, 2, 3, 4, 5, 6, 7, 8]) as u8;
+                p.budget = self.ticks();
+                let rest = if self.one_in(6) { 0 } else { self.ticks() };
+                p.period = (p.budget + rest).min(MAX_TICKS);
             }
         }
         p
     }
 
-    /// A number of threads, small for the most part.
+    /// A number of threads, the small ones a little more often.
     pub fn threads(&mut self) -> u32 {
-        match self.below(8) {
-            0 => self.between(1, 32) as u32,
-            1 => 32,
-            _ => self.between(1, 5) as u32,
-        }
+        let most = self.pick(&[5, 32, 32, 32]);
+        self.between(1, most) as u32
     }
 
     /// A table whose first `n` places are in range, flags 0 or 1.
@@ -128,46 +135,40 @@ impl Random {
         table
     }
 
-    /// A start time.
+    /// A start time, often such that time soon passes 2^32 or a power of ten.
     pub fn start(&mut self) -> u64 {
         let near = self.below(200);
-        self.pick(&[0, 0, near, 1 << 32, MAX_TIME - near - 1_000])
+        let power = 10u64.pow(self.between(3, 15) as u32);
+        self.pick(&[0, 0, near, (1 << 32) - near, power - near, power - 5 * near])
+    }
+
+    /// An aim; idle more often, since many threads are rarely all blocked.
+    pub fn aim(&mut self) -> Aim {
+        match self.below(5) {
+            0 => Aim::Any,
+            1 => Aim::Pending,
+            2 => Aim::Instants,
+            _ => Aim::Idle,
+        }
     }
 
     /// An event that suits the state for the most part; `damage` in a hundred
     /// have a field that is refused, or may be.
     pub fn event(&mut self, s: &State, damage: u64) -> Event {
-        let kind = self.pick(&[0, 0, 1, 1, 2, 3, 3, 3, 4]) as u8;
+        self.aimed_event(s, Aim::Any, damage)
+    }
+
+    /// An event as above, with an aim.
+    pub fn aimed_event(&mut self, s: &State, aim: Aim, damage: u64) -> Event {
         let mut e = Event {
-            kind,
+            time: self.time(s, aim),
+            kind: self.kind(s, aim),
             ..Event::default()
         };
-        let now = s.now.min(MAX_TIME);
-        // Made-up unsound states have no next moment worth asking for.
-        let next = if crate::sound(s) { next_moment(s) } else { 0 };
-        e.time = match self.below(12) {
-            0..=2 => now,
-            3 | 4 => now + self.between(1, 3),
-            5..=7 if next > 0 => next,
-            8 if next > 0 => next + self.below(3) - 1,
-            9 => now + self.below(60),
-            10 if self.one_in(40) => now + self.pick(&[1_000, MAX_STEP - 1, MAX_STEP]),
-            _ => now + self.below(10),
-        };
-        let n = s.n.clamp(1, 32) as u64;
-        match kind {
-            WAKE => {
-                e.thread = self.below(n) as u8;
-                for k in 0..n {
-                    let i = (e.thread as u64 + k) % n;
-                    if s.threads[i as usize].blocked {
-                        e.thread = i as u8;
-                        break;
-                    }
-                }
-            }
+        match e.kind {
+            WAKE => e.thread = self.sleeper(s, aim),
             SET => {
-                e.thread = self.below(n) as u8;
+                e.thread = self.below(in_use(s).len() as u64) as u8;
                 e.parameters = self.parameters();
                 if self.one_in(4) {
                     e.parameters = s.threads[e.thread as usize].parameters;
@@ -176,20 +177,84 @@ impl Random {
             _ => {}
         }
         if self.below(100) < damage {
-            self.damage_event(&mut e, now);
+            self.damage_event(&mut e, s);
         }
         e
     }
 
+    /// A time from now on; now and then one that is too far.
+    fn time(&mut self, s: &State, aim: Aim) -> u64 {
+        let now = s.now.min(MAX_TIME);
+        // Made-up unsound states have no moments worth asking for.
+        let (next, back) = if crate::sound(s) {
+            (next_moment(s), comes_back(s))
+        } else {
+            (now, now)
+        };
+        let next = next.clamp(now, now + MAX_STEP);
+        let back = back.clamp(now, now + MAX_STEP);
+        // A long step past many moments takes its time, so there are few of them.
+        if self.one_in(if next == now { 12 } else { 1_200 }) {
+            return now + self.pick(&[1_000, 70_000, MAX_STEP - 1, MAX_STEP]);
+        }
+        let beside = (next + self.below(3)).max(now + 1) - 1;
+        let short = now + self.between(1, 3);
+        let near = now + self.between(1, 10);
+        let wide = now + self.below(60);
+        let time = match aim {
+            Aim::Any => self.pick(&[now, now, next, next, beside, short, near, near, near, wide]),
+            Aim::Idle => self.pick(&[now, next, near, near, near, near, wide]),
+            Aim::Pending => self.pick(&[now, short, short, short]),
+            Aim::Instants => self.pick(&[now, now, next, next, next, beside, back]),
+        };
+        if time > MAX_TIME && !self.one_in(8) {
+            return MAX_TIME;
+        }
+        time
+    }
+
+    /// A kind that the state accepts, for the most part.
+    fn kind(&mut self, s: &State, aim: Aim) -> u8 {
+        let kind = match aim {
+            Aim::Any | Aim::Instants => self.pick(&[0, 0, 1, 1, 2, 3, 3, 3, 4]),
+            Aim::Idle => self.pick(&[0, 0, 1, 1, 2, 3, 4]),
+            Aim::Pending => self.pick(&[0, 1, 1, 1, 2, 3, 3, 3]),
+        } as u8;
+        let blocked = in_use(s).iter().any(|t| t.blocked);
+        match kind {
+            _ if self.one_in(4) => kind,
+            BLOCK | YIELD if s.word == 0 => CLOCK,
+            WAKE if !blocked => BLOCK,
+            _ => kind,
+        }
+    }
+
+    /// A thread to wake, blocked where one is; the one with most pending where
+    /// they are to pile up.
+    fn sleeper(&mut self, s: &State, aim: Aim) -> u8 {
+        let n = in_use(s).len();
+        let first = self.below(n as u64) as usize;
+        let mut after = (first..n).chain(0..first);
+        let blocked = |&i: &usize| s.threads[i].blocked;
+        let found = if aim == Aim::Pending {
+            after.filter(blocked).max_by_key(|&i| s.threads[i].pending)
+        } else {
+            after.find(blocked)
+        };
+        found.unwrap_or(first) as u8
+    }
+
     /// Changes one or two fields of an event.
-    pub fn damage_event(&mut self, e: &mut Event, now: u64) {
+    fn damage_event(&mut self, e: &mut Event, s: &State) {
+        let now = s.now.min(MAX_TIME);
         loop {
             let odd = self.odd();
-            match self.below(11) {
+            match self.below(12) {
                 0 => e.time = odd,
-                1 => e.time = self.pick(&[now.wrapping_sub(1), now + MAX_STEP, now + MAX_STEP + 1]),
+                1 => e.time = self.pick(&[now.wrapping_sub(1), now + MAX_STEP + 1]),
                 2 => e.kind = self.pick(&[0, 1, 2, 3, 4, 5, 255]) as u8,
                 3 => e.thread = odd as u8,
+                4 => e.thread = s.n as u8,
                 _ => self.damage_parameters(&mut e.parameters),
             }
             if !self.one_in(3) {
@@ -218,7 +283,7 @@ impl Random {
     pub fn sound_state(&mut self) -> State {
         let n = self.threads();
         let start = self.start();
-        let elapsed = match self.below(4) {
+        let elapsed = match self.below(6) {
             0 => 0,
             1 => self.below(1_000),
             2 => self.below(50),
@@ -233,16 +298,15 @@ impl Random {
         };
         // Run times + idle = now - start.
         let mut left = now - start;
+        s.idle = self.part(left);
+        left -= s.idle;
         let mut order: Vec<usize> = (0..n as usize).collect();
+        let runnable = self.pick(&[0, 1, 3, 3]);
         for i in 0..n as usize {
-            let total = if self.one_in(3) {
-                0
-            } else {
-                self.below(left + 1)
-            };
+            let total = self.part(left);
             left -= total;
             s.threads[i].total = total;
-            s.threads[i].blocked = self.one_in(3);
+            s.threads[i].blocked = self.below(4) >= runnable;
             s.threads[i].parameters = self.parameters();
             let p = s.threads[i].parameters;
             match p.policy {
@@ -252,7 +316,11 @@ impl Random {
             }
             order.swap(i, self.below(i as u64 + 1) as usize);
         }
-        s.idle = left;
+        if self.one_in(2) {
+            s.idle += left;
+        } else {
+            s.threads[n as usize - 1].total += left;
+        }
         for i in order {
             if !s.threads[i].blocked {
                 let k = assigned(&s.threads[i]) as usize - 1;
@@ -263,6 +331,13 @@ impl Random {
             }
         }
         s
+    }
+
+    /// A part of a time: none or all of it, a little less than 2^32, or any.
+    fn part(&mut self, whole: u64) -> u64 {
+        let wide = (1 << 32) - self.below(12);
+        let any = self.below(whole + 1);
+        self.pick(&[0, whole, any, any, wide.min(whole)])
     }
 
     /// A sound account for sporadic thread `i`: first the dues, then the budget
@@ -298,15 +373,9 @@ impl Random {
             if dues.len() as u64 == want || last <= now {
                 break;
             }
-            let range = last - now;
-            let near = range.min(20);
-            let due = now
-                + 1
-                + if self.one_in(3) {
-                    self.below(range)
-                } else {
-                    self.below(near)
-                };
+            let any = self.between(now + 1, last);
+            let near = self.between(now + 1, last.min(now + 20));
+            let due = self.pick(&[any, near, near, last]);
             if !dues.contains(&due) {
                 dues.push(due);
             }
@@ -368,7 +437,7 @@ impl Random {
         let used = (0..32).filter(|&k| s.lists[k].length > 0).nth(b as usize);
         let l = used.unwrap_or(p);
         let t = &mut s.threads[i as usize];
-        match self.below(24) {
+        match self.below(32) {
             0 => s.n = self.pick(&[0, 1, 32, 33, odd]) as u32,
             1 => nudge(&mut s.start),
             2 => nudge(&mut s.now),
@@ -388,7 +457,58 @@ impl Random {
             20 => nudge8(&mut s.lists[p].length),
             21 => nudge8(&mut s.lists[l].length),
             22 => nudge8(&mut s.lists[p].members[k * 4]),
-            _ => nudge8(&mut s.lists[l].members[k % 3]),
+            23 => nudge8(&mut s.lists[l].members[k % 3]),
+            24 => {
+                let past = (MAX_TIME + 1).wrapping_sub(s.now);
+                s.now = s.now.wrapping_add(past);
+                s.idle = s.idle.wrapping_add(past);
+            }
+            _ => self.strain(t, s.start, s.now),
+        }
+    }
+
+    /// Brings an account or a quantum to a bound or just past it; the sum of an
+    /// account stays.
+    fn strain(&mut self, t: &mut Thread, start: u64, now: u64) {
+        let p = t.parameters;
+        let last = t.pending.clamp(1, PENDING as u8) as usize - 1;
+        let since = self.pick(&[now, t.activation]);
+        match self.below(7) {
+            _ if p.policy == RR => t.quantum = self.pick(&[0, p.budget, p.budget.wrapping_add(1)]),
+            0 | 1 => {
+                let from = match t.capacity {
+                    0 => &mut t.amounts[last],
+                    _ => &mut t.capacity,
+                };
+                *from = from.wrapping_sub(1);
+                t.used = t.used.wrapping_add(1);
+            }
+            2 => {
+                t.capacity = t.capacity.wrapping_add(t.amounts[last]);
+                t.amounts[last] = 0;
+            }
+            3 => t.dues[0] = now.wrapping_add(self.below(2)),
+            4 => t.dues[0] = t.dues[1],
+            5 => t.dues[last] = since.wrapping_add(p.period).wrapping_sub(self.below(2)),
+            _ => {
+                t.activation = self.pick(&[start.wrapping_sub(1), start, now, now.wrapping_add(1)])
+            }
+        }
+    }
+}
+
+/// The threads in use, whatever the state holds.
+fn in_use(s: &State) -> &[Thread] {
+    &s.threads[..s.n.clamp(1, 32) as usize]
+}
+
+/// When what the running thread uses would come back, if it is sporadic.
+fn comes_back(s: &State) -> u64 {
+    match running(s) {
+        NOBODY => 0,
+        i => {
+            let t = &s.threads[i as usize];
+            t.activation + t.parameters.period
         }
     }
 }
