@@ -25,13 +25,12 @@ use Rattle.ready.proofs.SoundLaws.{withPlace, sound-same, append-sound, remove-
 use Rattle.passing.proofs.SequenceLaws.{firstOf-zero}
 use Rattle.state.specs.declared.Thread.{Thread}
 use Rattle.state.specs.declared.State.{State}
-use Rattle.state.specs.State.{noThread, threadAt, pendingAt, accountAt, assigned, placeOf, place}
+use Rattle.state.specs.State.{noThread, threadAt, pendingAt, accountAt, assigned, placeOf, place, withServer}
 use Rattle.rows.proofs.RowLaws.{row-length}
 use Rattle.state.proofs.SoundLaws.{ThreadSound, Sound}
 use Rattle.state.proofs.SoundLaws.ThreadSound.{absent, fifo, rr, sporadic}
 use Rattle.ticks.specs.Running.{level, head, idles}
 use Rattle.ticks.proofs.RunLaws.{by-zero, by-one, by-two}
-use Rattle.state.specs.State.{withServer}
 use Rattle.moments.specs.Changes.{withLists, withAccount}
 use Rattle.moments.proofs.ChangeLaws.{withBound, changed, thread-account}
 use Rattle.moments.proofs.ChargeLaws.{Runs, runs}

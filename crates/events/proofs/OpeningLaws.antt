@@ -23,12 +23,11 @@ use Rattle.passing.proofs.SequenceLaws.{firstOf-zero}
 use Rattle.state.specs.declared.Thread.{Thread}
 use Rattle.state.specs.declared.State.{State}
 use Rattle.rows.specs.Rows.{rowAt}
-use Rattle.state.specs.State.{noThread, threadAt, pendingAt, assigned, placeOf, place}
+use Rattle.state.specs.State.{noThread, threadAt, pendingAt, assigned, placeOf, place, withServer}
 use Rattle.state.specs.Sound.{totals, soundState}
 use Rattle.rows.proofs.RowLaws.{row-length}
 use Rattle.state.proofs.SoundLaws.{noPending, ThreadSound, Sound, state-in}
 use Rattle.state.proofs.SoundLaws.ThreadSound.{absent, fifo, rr, sporadic}
-use Rattle.state.specs.State.{withServer}
 use Rattle.moments.specs.Changes.{withLists, withAccount}
 use Rattle.moments.proofs.ChangeLaws.{withBound, totals-set, changed-at}
 use Rattle.moments.proofs.FireLaws.{bounds-same}

@@ -19,11 +19,10 @@ use Rattle.ready.proofs.SoundLaws.{leavable, joinable, movable}
 use Rattle.state.specs.declared.Thread.{Thread}
 use Rattle.state.specs.declared.State.{State}
 use Rattle.rows.specs.Rows.{withRow}
-use Rattle.state.specs.State.{threadAt, pendingAt, accountAt, assigned, place}
+use Rattle.state.specs.State.{threadAt, pendingAt, accountAt, assigned, place, withServer}
 use Rattle.state.specs.Sound.{soundState}
 use Rattle.state.proofs.SoundLaws.{Sound, range-out, state-out}
 use Rattle.ticks.specs.Running.{level, head, idles}
-use Rattle.state.specs.State.{withServer}
 use Rattle.moments.specs.Changes.{withLists, withAccount}
 use Rattle.moments.proofs.ChangeLaws.{thread-account}
 use Rattle.moments.proofs.ChargeLaws.{Runs, runs}

@@ -9,9 +9,8 @@ use Rattle.ready.specs.Word.{occupancy}
 use Rattle.state.specs.declared.Thread.{Thread}
 use Rattle.state.specs.declared.State.{State}
 use Rattle.rows.specs.Rows.{withRow}
-use Rattle.state.specs.State.{threadAt}
+use Rattle.state.specs.State.{threadAt, withServer}
 use Rattle.ticks.specs.Running.{level, head}
-use Rattle.state.specs.State.{withServer}
 use Rattle.moments.specs.Changes.{withLists, withAccount}
 use Rattle.events.specs.Effects.{block, yield, wake, set, byKind, effect}
 

@@ -22,11 +22,10 @@ use Rattle.passing.proofs.TimeLaws.{due-true, due-false}
 use Rattle.state.specs.declared.Thread.{Thread}
 use Rattle.state.specs.declared.State.{State}
 use Rattle.rows.specs.Rows.{rowAt, withRow}
-use Rattle.state.specs.State.{threadAt, pendingAt, accountAt}
+use Rattle.state.specs.State.{threadAt, pendingAt, accountAt, withServer}
 use Rattle.rows.proofs.RowLaws.{row-length}
 use Rattle.ticks.specs.declared.Due.{Due}
 use Rattle.ticks.specs.Running.{level, head, ran, charge, limit, nextDue, next}
-use Rattle.state.specs.State.{withServer}
 use Rattle.moments.specs.Changes.{withLeft, sentTo, entriesAfter, withOutcome}
 use Rattle.moments.specs.Moments.{quantumEnded, limits, passed}
 use Rattle.moments.proofs.DueLaws.{found, row-first, earlier-left}

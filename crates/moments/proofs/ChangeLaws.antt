@@ -18,11 +18,10 @@ use Rattle.ready.proofs.SoundLaws.{withPlace, sound-same}
 use Rattle.state.specs.declared.Thread.{Thread}
 use Rattle.state.specs.declared.State.{State}
 use Rattle.rows.specs.Rows.{rowAt, withRow}
-use Rattle.state.specs.State.{noThread, threadAt, pendingAt, placeOf, place}
+use Rattle.state.specs.State.{noThread, threadAt, pendingAt, placeOf, place, withServer}
 use Rattle.state.specs.Sound.{totals}
 use Rattle.rows.proofs.RowLaws.{row-same}
 use Rattle.state.proofs.SoundLaws.{ThreadSound, SoundFrom, sizeTests}
-use Rattle.state.specs.State.{withServer}
 use Rattle.moments.specs.Changes.{withThread, withLists, withAccount}
 
 -- ---- rows

@@ -26,12 +26,11 @@ use Rattle.ready.proofs.Soundness.{ListsSound}
 use Rattle.ready.proofs.SoundLaws.{withPlace, sound-same, move-sound}
 use Rattle.state.specs.declared.Thread.{Thread}
 use Rattle.state.specs.declared.State.{State}
-use Rattle.state.specs.State.{threadAt, pendingAt, accountAt, placeOf, place}
+use Rattle.state.specs.State.{threadAt, pendingAt, accountAt, placeOf, place, withServer}
 use Rattle.state.proofs.SoundLaws.{ThreadSound, SoundFrom, Sound, SporadicTests}
 use Rattle.state.proofs.SoundLaws.ThreadSound.{absent, fifo, rr, sporadic}
 use Rattle.ticks.specs.Running.{level, head, idles}
 use Rattle.ticks.proofs.RunLaws.{by-two}
-use Rattle.state.specs.State.{withServer}
 use Rattle.moments.specs.Changes.{withLists, withAccount, sentTo, withOutcome}
 use Rattle.moments.specs.Moments.{quantumEnded, limitsOf, limits, replenish, replenishBelow, fire}
 use Rattle.moments.proofs.ChangeLaws.{withBound, changed}

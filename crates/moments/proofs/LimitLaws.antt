@@ -28,13 +28,12 @@ use Rattle.ready.proofs.SoundLaws.{withPlace, sound-same, move-sound}
 use Rattle.state.specs.declared.Thread.{Thread}
 use Rattle.state.specs.declared.State.{State}
 use Rattle.rows.specs.Rows.{rowAt}
-use Rattle.state.specs.State.{noServer, noThread, threadAt, pendingAt, accountAt, assigned, placeOf, place}
+use Rattle.state.specs.State.{noServer, noThread, threadAt, pendingAt, accountAt, assigned, placeOf, place, withServer}
 use Rattle.rows.proofs.RowLaws.{row-length}
 use Rattle.state.proofs.SoundLaws.{noPending, ThreadSound, SoundFrom, sizeTests, RrTests, SporadicTests}
 use Rattle.state.proofs.SoundLaws.ThreadSound.{absent, fifo, rr, sporadic}
 use Rattle.ticks.specs.Running.{level, head, idles, ran, charge}
 use Rattle.ticks.proofs.RunLaws.{by-zero, by-one, by-two}
-use Rattle.state.specs.State.{withServer}
 use Rattle.moments.specs.Changes.{withLists, withLeft, withAccount, sentTo, withOutcome}
 use Rattle.moments.specs.Moments.{limitsOf, limits}
 use Rattle.moments.proofs.ChangeLaws.{withBound, totals-set, changed-at, thread-account}
