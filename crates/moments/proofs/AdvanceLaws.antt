@@ -26,7 +26,7 @@ use Rattle.state.specs.State.{threadAt, pendingAt, accountAt, withServer}
 use Rattle.rows.proofs.RowLaws.{row-length}
 use Rattle.ticks.specs.declared.Due.{Due}
 use Rattle.ticks.specs.Running.{level, head, ran, charge, limit, nextDue, next}
-use Rattle.moments.specs.Changes.{withLeft, sentTo, entriesAfter, withOutcome}
+use Rattle.moments.specs.Changes.{withLeft, sentTo, countAfter, rowAfter, withOutcome}
 use Rattle.moments.specs.Moments.{quantumEnded, limits, passed}
 use Rattle.moments.proofs.DueLaws.{found, row-first, earlier-left}
 use Rattle.moments.proofs.InsertLaws.{afterLimit, after-limit-is, limit-entries}
@@ -50,7 +50,16 @@ withTicks i now idle w s =
       lists = s .lists;
     }
 
--- the entries after a limit: one more where the amount is not 0
+-- the entries after a limit or a return, by their parts
+abbrev entriesAfter : Bool → ℕ → ℕ → Pending → Pending
+entriesAfter limited due amount q =
+    record {
+      count = countAfter limited amount (q .count);
+      dues = rowAfter limited amount (q .count) due (q .dues);
+      amounts = rowAfter limited amount (q .count) amount (q .amounts);
+    }
+
+-- after a limit: one more where the amount is not 0
 added-is : (due amount : ℕ) (q : Pending) → withAdded due amount q ≡ entriesAfter true due amount q
 added-is due amount q = go (eqb amount 0)
   where

@@ -5,7 +5,6 @@ use mathlib.Core.List.{List}
 use lib.ListN.{set}
 use lib.Dec.{eqb}
 use Rattle.records.specs.declared.Parameters.{Parameters}
-use Rattle.account.specs.declared.Pending.{Pending}
 use Rattle.account.specs.declared.Account.{Account}
 use Rattle.account.specs.declared.Outcome.{Outcome}
 use Rattle.account.specs.declared.Place.{Place}
@@ -50,21 +49,13 @@ withLists l s =
 abbrev pub withLeft : ℕ → Thread → Thread
 withLeft n t = record { parameters = t .parameters; blocked = t .blocked; total = t .total; left = n; server = t .server }
 
--- Passing 8 and 9: how many entries there are, their dues or amounts, and all of it, after a limit, which adds an amount that
--- is not 0 (x is its due time or the amount), or after the first came back
+-- Passing 8 and 9: how many entries there are, and their dues or amounts, after a limit, which adds an amount that is not 0 (x is
+-- its due time or the amount), or after the first came back
 abbrev pub countAfter : Bool → ℕ → ℕ → ℕ
 countAfter limited amount count = cond limited (cond (eqb amount 0) count (count + 1)) (count - 1)
 
 abbrev pub rowAfter : Bool → ℕ → ℕ → ℕ → List ℕ → List ℕ
 rowAfter limited amount count x row = cond limited (cond (eqb amount 0) row (set row count x)) (shifted row)
-
-abbrev pub entriesAfter : Bool → ℕ → ℕ → Pending → Pending
-entriesAfter limited due amount q =
-    record {
-      count = countAfter limited amount (q .count);
-      dues = rowAfter limited amount (q .count) due (q .dues);
-      amounts = rowAfter limited amount (q .count) amount (q .amounts);
-    }
 
 -- another thread and account at place i
 abbrev pub withAccount : ℕ → Thread → Account → State → State
