@@ -1,26 +1,52 @@
-//! Every trace of the vectors gives its listing, byte for byte.
+//! Every stored trace gives its listing, byte for byte. Traces and listings are those of the crate `replay_vectors`: a file
+//! `data/NN` for each, and in `stdout` its name, the status of reading and writing it again, what that left, and its listing.
 
 use model::{listing, read, write};
 use std::fs;
-use std::path::Path;
+use std::path::PathBuf;
 
-fn folder() -> &'static Path {
-    Path::new(concat!(env!("CARGO_MANIFEST_DIR"), "/../vectors"))
+fn stored(name: &str) -> Vec<u8> {
+    let folder = concat!(env!("CARGO_MANIFEST_DIR"), "/../../crates/replay_vectors");
+    let path: PathBuf = [folder, name].iter().collect();
+    fs::read(&path).unwrap_or_else(|e| panic!("{}: {e}", path.display()))
 }
 
-/// Name, trace, listing.
-fn vectors() -> Vec<(String, Vec<u8>, Vec<u8>)> {
-    let mut found = Vec::new();
-    for entry in fs::read_dir(folder()).expect("the folder of vectors") {
-        let path = entry.expect("an entry").path();
-        if path.extension().is_some_and(|x| x == "bin") {
-            let name = path.file_stem().unwrap().to_string_lossy().into_owned();
-            let trace = fs::read(&path).expect("a trace");
-            let text = fs::read(path.with_extension("txt")).expect("its listing");
-            found.push((name, trace, text));
+struct Vector {
+    name: String,
+    status: u8,
+    trace: Vec<u8>,
+    listing: String,
+}
+
+/// A line with a name and a status, then `same` or `unchanged`, start a vector; the lines up to the next one are its listing.
+fn vectors() -> Vec<Vector> {
+    let text = String::from_utf8(stored("stdout")).expect("text");
+    let lines: Vec<&str> = text.split_inclusive('\n').collect();
+    let starts = |i: usize| matches!(lines.get(i + 1), Some(&"same\n" | &"unchanged\n"));
+    let mut found: Vec<Vector> = Vec::new();
+    let mut i = 0;
+    while i < lines.len() {
+        if starts(i) {
+            let (name, status) = lines[i]
+                .trim_end()
+                .split_once(' ')
+                .expect("a name and a status");
+            found.push(Vector {
+                name: name.to_string(),
+                status: status.parse().expect("a status"),
+                trace: stored(&format!("data/{name}")),
+                listing: String::new(),
+            });
+            i += 2;
+        } else {
+            found
+                .last_mut()
+                .expect("a first name")
+                .listing
+                .push_str(lines[i]);
+            i += 1;
         }
     }
-    found.sort();
     found
 }
 
@@ -28,16 +54,12 @@ fn vectors() -> Vec<(String, Vec<u8>, Vec<u8>)> {
 fn every_vector_matches() {
     let all = vectors();
     let mut wrong = Vec::new();
-    for (name, trace, text) in &all {
-        let ours = listing(trace);
-        if ours != *text {
-            let (a, b) = (
-                String::from_utf8_lossy(&ours),
-                String::from_utf8_lossy(text),
-            );
-            let first = a.lines().zip(b.lines()).find(|(x, y)| x != y);
-            println!("{name}: first difference (model, vector): {first:?}");
-            wrong.push(name.clone());
+    for v in &all {
+        let ours = String::from_utf8(listing(&v.trace)).expect("text");
+        if ours != v.listing {
+            let first = ours.lines().zip(v.listing.lines()).find(|(x, y)| x != y);
+            println!("{}: first difference (model, vector): {first:?}", v.name);
+            wrong.push(&v.name);
         }
     }
     println!("{} of {} vectors match", all.len() - wrong.len(), all.len());
@@ -48,8 +70,21 @@ fn every_vector_matches() {
 #[test]
 fn reading_then_writing_gives_the_file_again() {
     let mut written = 0;
-    for (name, file, _) in vectors() {
-        let Ok(trace) = read(&file) else { continue };
+    for Vector {
+        name,
+        status,
+        trace: file,
+        ..
+    } in vectors()
+    {
+        let trace = match read(&file) {
+            Ok(trace) => trace,
+            Err(refusal) => {
+                assert_eq!(refusal, status, "{name}");
+                continue;
+            }
+        };
+        assert_eq!(status, 0, "{name}");
         let events: Vec<_> = trace.collect();
         let mut out = vec![0xa5; file.len() + 3];
         let total = write(trace.start, trace.n, &trace.table(), &events, &mut out);
