@@ -25,7 +25,7 @@ pub struct Found {
 pub extern "C" fn thawonlai_read(file: &[u8]) -> Found
     ensures { λ r. ⌜ r ≡ foundIn (now (file .entry)) ⌝ }
 {
-    let c = trace_reading::read(file);
+    let c = trace_contents::read(file);
     let header = c.header;
     Found {
         status: c.status,

@@ -14,11 +14,11 @@ use Rattle.text.specs.Placed.{placed, Put}
 use Rattle.text.proofs.PlacedLaws.{after}
 use Rattle.executive.specs.declared.Answer.{Answer}
 use Rattle.trace_records.specs.Records.{fieldsOf}
-use Rattle.trace_reading.specs.Read.{headerRight, readStatus}
-use Rattle.trace_reading.proofs.ReadLaws.{right, read-refused}
-use Rattle.steps.specs.declared.Begun.{Begun}
-use Rattle.steps.specs.Steps.{begunOf, answersTo, closing, answersFrom, endFrom}
-use Rattle.steps.proofs.FileLaws.{steps-answer-all, begun-unread}
+use Rattle.trace_contents.specs.Read.{headerRight, readStatus}
+use Rattle.trace_contents.proofs.ReadLaws.{right, read-refused}
+use Rattle.replay_steps.specs.declared.Begun.{Begun}
+use Rattle.replay_steps.specs.FileSteps.{begunOf, answersTo, closing, answersFrom, endFrom}
+use Rattle.replay_steps.proofs.FileLaws.{steps-answer-all, begun-unread}
 use Rattle.listing.specs.declared.Listed.{Listed}
 use Rattle.listing.specs.Lines.{headerLine, eventLines, threadLines, idleLine, refusedLine}
 use Rattle.listing.specs.Listing.{replayOf, listingOf, listedOf, bufferOf, largest, LongIsRefused}

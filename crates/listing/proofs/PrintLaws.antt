@@ -14,9 +14,9 @@ use Rattle.text.specs.Placed.{Put}
 use Rattle.text.proofs.PlacedLaws.{nothing, after}
 use Rattle.trace.specs.Lists.{joined}
 use Rattle.trace.proofs.RunLaws.{joined-next}
-use Rattle.steps.specs.declared.Stepped.{Stepped}
-use Rattle.steps.specs.Steps.{answersFrom}
-use Rattle.steps.proofs.FileLaws.{Goes, Stops}
+use Rattle.replay_steps.specs.declared.Stepped.{Stepped}
+use Rattle.replay_steps.specs.FileSteps.{answersFrom}
+use Rattle.replay_steps.proofs.FileLaws.{Goes, Stops}
 use Rattle.listing.specs.Lines.{eventLine, threadLine, eventLines, threadLines}
 
 -- what has been put from a place on, and what is still to come, are the whole

@@ -5,7 +5,7 @@ use mathlib.Core.List.{List, _++_}
 use mathlib.Core.Path.{_≡_}
 use lib.Dec.{leb, eqb}
 use lib.ListN.{length, drop}
-use Rattle.steps.specs.Steps.{begunOf, answersTo, closing}
+use Rattle.replay_steps.specs.FileSteps.{begunOf, answersTo, closing}
 use Rattle.listing.specs.declared.Listed.{Listed}
 use Rattle.listing.specs.Lines.{headerLine, eventLines, threadLines, idleLine, refusedLine}
 

@@ -6,7 +6,7 @@ ghost use Prim.Native.Nat.{_+_, _≤_};
 ghost use lib.ListN.{length};
 ghost use Rattle.state.specs.Sound.{soundState};
 ghost use Rattle.text.specs.Placed.{Put};
-ghost use Rattle.steps.specs.Steps.{answersFrom, endFrom};
+ghost use Rattle.replay_steps.specs.FileSteps.{answersFrom, endFrom};
 ghost use Rattle.listing.specs.Lines.{eventLines, threadLines, idleLine};
 ghost use Rattle.listing.specs.Listing.{listingOf, largest};
 use super::lines;
@@ -30,7 +30,7 @@ fn put_events(out: &mut [u8], at: usize, opened: State, file: &[u8], first: usiz
     let mut here = at;
     let mut i = 0;
     while i < EVENTS {
-        let step = steps::step_at(s, file, place);
+        let step = replay_steps::step_at(s, file, place);
         if !step.more {
             return Ended { at: here, state: s };
         }
@@ -72,7 +72,7 @@ pub(super) fn put_listing(out: &mut [u8], file: &[u8]) -> usize
     ensures { λ r. ⌜ Put (now (out .entry)) 0 (listingOf (now (file .entry))) (now (out .exit)) r ⌝ }
     ensures { λ r. ⌜ r ≤ largest ⌝ }
 {
-    let begun = steps::begin(file);
+    let begun = replay_steps::begin(file);
     let status = begun.status;
     if status != 0 {
         return lines::put_refused(out, 0, status);

@@ -58,7 +58,7 @@ fn status(file: &[u8], len: usize) -> u64 {
     if file.len() < len {
         return 255;
     }
-    let c = trace_reading::read(&file[..len]);
+    let c = trace_contents::read(&file[..len]);
     wide(c.status)
 }
 

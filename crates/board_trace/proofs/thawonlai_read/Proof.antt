@@ -1,6 +1,6 @@
 -- `board_trace::thawonlai_read` meets its contract.
 use borrow.Author.Needs.{needs}
-use Rattle.trace_reading.specs.declared.Contents.{Contents}
+use Rattle.trace_contents.specs.declared.Contents.{Contents}
 use mathlib.Core.Path.{_≡_, ap}
 use Rattle.board_trace.specs.Found.{foundOf}
 use Rattle.board_trace.proofs.thawonlai_read.Statement.{statement}

@@ -6,8 +6,8 @@ use native.Mathlib.Omega.{arith}
 use lib.ListN.{length}
 use borrow.Author.Tests.{not-true, not-false}
 use Rattle.state.specs.Sound.{soundState}
-use Rattle.steps.specs.Steps.{answersFrom, endFrom}
-use Rattle.steps.proofs.FileLaws.{goes-on, stops-here, none-left}
+use Rattle.replay_steps.specs.FileSteps.{answersFrom, endFrom}
+use Rattle.replay_steps.proofs.FileLaws.{goes-on, stops-here, none-left}
 use Rattle.listing.specs.Lines.{eventLines}
 use Rattle.listing.proofs.PrintLaws.{Printed, printed-none, printed-next, printed-all, line-next, line-none}
 use Rattle.listing.proofs.replay.put_events.Statement.{statement}
@@ -15,7 +15,7 @@ use Rattle.listing.proofs.replay.put_events.Tie as tie
 use Rattle.listing.proofs.replay.put_events.Reads as reads
 use Rattle.listing.proofs.replay.put_events.Lts as lts
 use Rattle.listing.proofs.lines.put_event.Reads as put-event-reads
-use Rattle.steps.proofs.step_at.Reads as step-at-reads
+use Rattle.replay_steps.proofs.step_at.Reads as step-at-reads
 
 abbrev Inv-loop : tie.InvT-loop
 Inv-loop out₀ at file first s₀ place₀ here₀ i₀ out s place here i =

@@ -10,7 +10,7 @@ use Rattle.listing.proofs.lines.put_header.Reads as put-header-reads
 use Rattle.listing.proofs.lines.put_refused.Reads as put-refused-reads
 use Rattle.listing.proofs.replay.put_events.Reads as put-events-reads
 use Rattle.listing.proofs.replay.put_threads.Reads as put-threads-reads
-use Rattle.steps.proofs.begin.Reads as begin-reads
+use Rattle.replay_steps.proofs.begin.Reads as begin-reads
 
 -- src/replay.rt:69:9
 begin-requires : tie.Need-begin-requires

@@ -1,0 +1,2 @@
+-- What a reader of `replay_steps` must believe.
+pub mod FileSteps

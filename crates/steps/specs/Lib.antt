@@ -1,2 +1,0 @@
--- What a reader of `steps` must believe.
-pub mod Steps

@@ -1,0 +1,3 @@
+-- What a reader of `trace_contents` must believe.
+pub mod Lists
+pub mod Read

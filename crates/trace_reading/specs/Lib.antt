@@ -1,3 +1,0 @@
--- What a reader of `trace_reading` must believe.
-pub mod Lists
-pub mod Read
