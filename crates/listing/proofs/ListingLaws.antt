@@ -42,8 +42,8 @@ refusal-put {o} {o₁} {r} file b e n p =
 module _ {o o₁ o₂ o₃ : List ℕ} {r₁ r₂ r₃ : ℕ} (file : List ℕ) (s : State) (h₁ : r₁ ≤ length o) (h₂ : r₂ ≤ length o)
     (p : Put o 0 headerLine o₁ r₁) (q : Put o₂ r₂ (threadLines s (s .header .n) ++ idleLine (s .idle)) o₃ r₃) where
   replay-of : begunOf file .status ≡ 0
-      → Put o₁ r₁ (eventLines 0 (answersFrom (begunOf file .answer .state) file (begunOf file .place) 1500)) o₂ r₂
-      → s ≡ endFrom (begunOf file .answer .state) file (begunOf file .place) 1500
+      → Put o₁ r₁ (eventLines 0 (answersFrom (begunOf file .answer .state) file (begunOf file .offset) 1500)) o₂ r₂
+      → s ≡ endFrom (begunOf file .answer .state) file (begunOf file .offset) 1500
       → Put o 0 (listingOf file) o₃ r₃
   unfolding begunOf replayOf
   replay-of z d e =
@@ -59,14 +59,14 @@ module _ {o o₁ o₂ o₃ : List ℕ} {r₁ r₂ r₃ : ℕ} (file : List ℕ) 
       (after h₂ (after h₁ p events) rest)
 
   pub replay-put : (b : Begun) → b ≡ begunOf file → b .status ≡ 0
-      → Put o₁ r₁ (eventLines 0 (answersFrom (b .answer .state) file (b .place) 1500)) o₂ r₂
-      → s ≡ endFrom (b .answer .state) file (b .place) 1500
+      → Put o₁ r₁ (eventLines 0 (answersFrom (b .answer .state) file (b .offset) 1500)) o₂ r₂
+      → s ≡ endFrom (b .answer .state) file (b .offset) 1500
       → Put o 0 (listingOf file) o₃ r₃
   replay-put b e =
       subst⁻¹
       (λ (x : Begun). x .status ≡ 0
-      → Put o₁ r₁ (eventLines 0 (answersFrom (x .answer .state) file (x .place) 1500)) o₂ r₂
-      → s ≡ endFrom (x .answer .state) file (x .place) 1500
+      → Put o₁ r₁ (eventLines 0 (answersFrom (x .answer .state) file (x .offset) 1500)) o₂ r₂
+      → s ≡ endFrom (x .answer .state) file (x .offset) 1500
       → Put o 0 (listingOf file) o₃ r₃)
       e
       replay-of

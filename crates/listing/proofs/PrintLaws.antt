@@ -19,7 +19,7 @@ use Rattle.replay_steps.specs.FileSteps.{answersFrom}
 use Rattle.replay_steps.proofs.FileLaws.{Goes, Stops}
 use Rattle.listing.specs.Lines.{eventLine, threadLine, eventLines, threadLines}
 
--- what has been put from a place on, and what is still to come, are the whole
+-- what has been put from an offset on, and what is still to come, are the whole
 pub record Printed (o out : List ℕ) (at here : ℕ) (rest whole : List ℕ) : Type 0 where
   pub text : List ℕ
   pub put : Put o at text out here
@@ -42,15 +42,15 @@ printed-all {o} {out} {at} {here} p e =
     subst (λ (v : List ℕ). Put o at v out here) (sym (append-nil (p .text)) ∙ ap (λ (l : List ℕ). p .text ++ l) (sym e) ∙ p .all) (p .put)
 
 -- the line of an event that was answered, and those of the events after it
-pub line-next : (s : State) (file : List ℕ) (place k i : ℕ) (r : Stepped) → Goes s file place k r
-    → eventLines i (answersFrom s file place (suc k))
-    ≡ eventLine i (r .answer .status) (r .answer .running) (r .answer .next) ++ eventLines (i + 1) (answersFrom (r .answer .state) file (r .place) k)
+pub line-next : (s : State) (file : List ℕ) (offset k i : ℕ) (r : Stepped) → Goes s file offset k r
+    → eventLines i (answersFrom s file offset (suc k))
+    ≡ eventLine i (r .answer .status) (r .answer .running) (r .answer .next) ++ eventLines (i + 1) (answersFrom (r .answer .state) file (r .offset) k)
 unfolding eventLines
-line-next s file place k i r g = rw (add-one, g .answers)
+line-next s file offset k i r g = rw (add-one, g .answers)
 
-pub line-none : (s : State) (file : List ℕ) (place k i : ℕ) → Stops s file place k → eventLines i (answersFrom s file place k) ≡ []
+pub line-none : (s : State) (file : List ℕ) (offset k i : ℕ) → Stops s file offset k → eventLines i (answersFrom s file offset k) ≡ []
 unfolding eventLines
-line-none s file place k i g = rw (g .answers)
+line-none s file offset k i g = rw (g .answers)
 
 -- a sound state has at most 32 threads
 pub few : (s : State) → soundState s ≡ true → s .header .n ≤ 32

@@ -1,4 +1,4 @@
-// One line of each kind, put at a place of a buffer; each answers the place after it.
+// One line of each kind, put at an offset of a buffer; each answers the offset after it.
 ghost use Prim.Native.Nat.{_+_, _<_, _≤_};
 ghost use lib.ListN.{length};
 ghost use Rattle.text.specs.Placed.{Put};

@@ -19,18 +19,18 @@ struct Ended {
     state: State,
 }
 
-// A line for each event from a place on.
+// A line for each event from an offset on.
 fn put_events(out: &mut [u8], at: usize, opened: State, file: &[u8], first: usize) -> Ended
     requires { ⌜ (soundState opened ≡ true) × (at + 51000 ≤ length (now out)) ⌝ }
     ensures { λ r. ⌜ Put (now (out .entry)) at (eventLines 0 (answersFrom opened (now (file .entry)) first 1500)) (now (out .exit)) (r .at) ⌝ }
     ensures { λ r. ⌜ (r .state ≡ endFrom opened (now (file .entry)) first 1500) × (soundState (r .state) ≡ true) × (r .at ≤ at + 51000) ⌝ }
 {
     let mut s = opened;
-    let mut place = first;
+    let mut offset = first;
     let mut here = at;
     let mut i = 0;
     while i < EVENTS {
-        let step = replay_steps::step_at(s, file, place);
+        let step = replay_steps::step_at(s, file, offset);
         if !step.more {
             return Ended { at: here, state: s };
         }
@@ -43,7 +43,7 @@ fn put_events(out: &mut [u8], at: usize, opened: State, file: &[u8], first: usiz
             step.answer.next,
         );
         s = step.answer.state;
-        place = step.place;
+        offset = step.offset;
         i += 1;
     }
     Ended { at: here, state: s }
@@ -80,7 +80,7 @@ pub(super) fn put_listing(out: &mut [u8], file: &[u8]) -> usize
     let a = begun.answer;
     let opened = a.state;
     let here = lines::put_header(out, 0);
-    let ended = put_events(out, here, opened, file, begun.place);
+    let ended = put_events(out, here, opened, file, begun.offset);
     let last = ended.state;
     put_threads(out, ended.at, last)
 }

@@ -37,7 +37,7 @@ bytes-take (suc k) (x ∷ s) b (suc i) = bytes-take k s (λ j. b (suc j)) i
 pub bytes-drop : (n : ℕ) (s : List ℕ) → Bytes s → Bytes (drop n s)
 bytes-drop n s b i = rw getD-drop (b (n + i))
 
--- the same at a place of a list
+-- the same at an offset of a list
 pub bytes-at : (s : List ℕ) (k at : ℕ) → at + k ≤ length s → Bytes s → bytesOf k (numberAt k at s) ≡ take k (drop at s)
 unfolding numberAt
 bytes-at s k at h b =
@@ -45,7 +45,7 @@ bytes-at s k at h b =
     ap (λ (n : ℕ). bytesOf n (numberOf (take k (drop at s)))) (sym l)
     ∙ bytes-number (take k (drop at s)) (bytes-take k (drop at s) (bytes-drop at s b))
 
--- a number that stands at a place of a list is read from there
+-- a number that stands at an offset of a list is read from there
 pub number-at : (s : List ℕ) (k at n : ℕ) → n < 256 ^ k → take k (drop at s) ≡ bytesOf k n → numberAt k at s ≡ n
 unfolding numberAt
 number-at s k at n h e = ap numberOf e ∙ number-bytes k n h

@@ -17,6 +17,6 @@ unfoldable pub numberOf : List ℕ → ℕ
 numberOf [] = 0
 numberOf (b ∷ bs) = numberOf bs * 256 + b
 
--- the number whose k bytes start at a place
+-- the number whose k bytes start at an offset
 unfoldable pub numberAt : ℕ → ℕ → List ℕ → ℕ
 numberAt k at s = numberOf (take k (drop at s))

@@ -53,9 +53,9 @@ pub word-next : {o o₁ o₂ : List ℕ} {at here r : ℕ} (w : List ℕ) (i : �
 word-next w i h l a b =
     rw (add-one, take-suc w i 0 l) (then (omega (arith, length-take-le i w (omega arith))) a b)
 
--- the place after i bytes of a word
-pub word-place : {o o₁ : List ℕ} {at here : ℕ} (w : List ℕ) (i : ℕ) → i ≤ length w → Put o at (take i w) o₁ here → here ≡ at + i
-word-place w i h a = omega (arith, a .next, length-take-le i w h)
+-- the offset after i bytes of a word
+pub word-offset : {o o₁ : List ℕ} {at here : ℕ} (w : List ℕ) (i : ℕ) → i ≤ length w → Put o at (take i w) o₁ here → here ≡ at + i
+word-offset w i h a = omega (arith, a .next, length-take-le i w h)
 
 -- the length that is left by a function that puts bytes
 pub length-put : {o v o′ : List ℕ} {at r : ℕ} → at + length v ≤ length o → Put o at v o′ r → length o′ ≡ length o

@@ -1,4 +1,4 @@
-// Text in a lent buffer. Each function puts bytes at a place, keeps every other byte, and answers the place after them.
+// Text in a lent buffer. Each function puts bytes at an offset, keeps every other byte, and answers the offset after them.
 ghost use mathlib.Core.List.{[], _∷_};
 ghost use Prim.Native.Nat.{_+_, _<_, _≤_};
 ghost use lib.ListN.{length};

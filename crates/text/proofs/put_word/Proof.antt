@@ -5,7 +5,7 @@ use native.Mathlib.Omega.{arith}
 use lib.ListN.{length, take}
 use lib.Seq.{take-all}
 use Rattle.text.specs.Placed.{Put}
-use Rattle.text.proofs.PlacedLaws.{nothing, word-next, word-place}
+use Rattle.text.proofs.PlacedLaws.{nothing, word-next, word-offset}
 use Rattle.text.proofs.put_word.Statement.{statement}
 use Rattle.text.proofs.put_word.Tie as tie
 
@@ -24,7 +24,7 @@ shared-slice-read-put-byte c = omega arith
 put-byte-requires : tie.Need-put-byte-requires Inv-loop μ-loop
 put-byte-requires c κs =
     let w = c .before .before .before .loop in
-    omega (arith, w .inv .1, word-place _ (w .i) (w .inv .0) (w .inv .2), c .before .before .before .before .before .before .pre)
+    omega (arith, w .inv .1, word-offset _ (w .i) (w .inv .0) (w .inv .2), c .before .before .before .before .before .before .pre)
 
 add-i : tie.Need-add-i Inv-loop μ-loop
 add-i c = omega arith
