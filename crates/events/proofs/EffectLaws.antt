@@ -19,7 +19,7 @@ use Rattle.account.specs.Rules.{blocking, waking}
 use Rattle.account.specs.Sound.{runsUpper}
 use Rattle.account.proofs.SoundLaws.{AccountSound, Sent, block-sound, wake-upper, wake-low, fresh-sound, upper-room}
 use Rattle.state.specs.declared.Thread.{Thread}
-use Rattle.state.specs.State.{assigned, withServer}
+use Rattle.state.specs.State.{isBlocked, assigned, withServer}
 use Rattle.state.proofs.SoundLaws.{ThreadSound, range-out, fifo-out, rr-out, sporadic-out}
 use Rattle.state.proofs.SoundLaws.ThreadSound.{absent, fifo, rr, sporadic}
 use Rattle.ticks.proofs.RunLaws.{by-zero, by-one, by-two}
@@ -33,19 +33,19 @@ pub record Fits (start now : ℕ) (b : Bool) (t : Thread) (a : Account) : Type 0
 
 module _ (start now : ℕ) (b : Bool) (t : Thread) (q : Pending) (d : length (q .dues) ≡ 8) (m : length (q .amounts) ≡ 8) where
   -- a block of a thread that stands in list p
-  pub block-fits : ThreadSound start now now b t q → t .blocked ≡ false → (p : ℕ) → assigned t (q .count) ≡ p → 1 ≤ p
-      → Fits start now b (withBlocked true t) (ifSporadic t (blocking now false (t .parameters) (record { server = t .server; pending = q }) .account) (record { server = t .server; pending = q }))
+  pub block-fits : ThreadSound start now now b t q → isBlocked t ≡ false → (p : ℕ) → assigned t (q .count) ≡ p → 1 ≤ p
+      → Fits start now b (withBlocked 1 t) (ifSporadic t (blocking now false (t .parameters) (record { server = t .server; pending = q }) .account) (record { server = t .server; pending = q }))
   block-fits (absent n e f) w p a l = absurd (omega (arith, ap (λ (x : Thread). assigned x (q .count)) e))
   block-fits (fifo n z h l v f) w p a g =
-      subst⁻¹ (Fits start now b (withBlocked true t)) (by-zero (t .parameters .policy) _ _ _ z) (record { dues = d; amounts = m; sound = fifo n z h l v f })
+      subst⁻¹ (Fits start now b (withBlocked 1 t)) (by-zero (t .parameters .policy) _ _ _ z) (record { dues = d; amounts = m; sound = fifo n z (omega (tests, h)) l v f })
   block-fits (rr n z h l v f) w p a g =
-      subst⁻¹ (Fits start now b (withBlocked true t)) (by-one (t .parameters .policy) _ _ _ z) (record { dues = d; amounts = m; sound = rr n z h l v f })
+      subst⁻¹ (Fits start now b (withBlocked 1 t)) (by-one (t .parameters .policy) _ _ _ z) (record { dues = d; amounts = m; sound = rr n z (omega (tests, h)) l v f })
   block-fits (sporadic n z h l v) w p a g =
       let k = block-sound start now (t .parameters) now (record { server = t .server; pending = q })
-      (runsUpper (t .blocked) (t .parameters) (record { server = t .server; pending = q })) v (omega arith) (omega (tests, h))
-      (λ u. upper-room (t .parameters) (record { server = t .server; pending = q }) (sym (cond-false (t .blocked) false _ w) ∙ u) .1) in
-      subst⁻¹ (Fits start now b (withBlocked true t)) (by-two (t .parameters .policy) _ _ _ z)
-      (record { dues = omega (tests, k .duePlaces .0); amounts = omega (tests, k .amountPlaces .0); sound = sporadic n z h l k })
+      (runsUpper (isBlocked t) (t .parameters) (record { server = t .server; pending = q })) v (omega arith) (omega (tests, h))
+      (λ u. upper-room (t .parameters) (record { server = t .server; pending = q }) (sym (cond-false (isBlocked t) false _ w) ∙ u) .1) in
+      subst⁻¹ (Fits start now b (withBlocked 1 t)) (by-two (t .parameters .policy) _ _ _ z)
+      (record { dues = omega (tests, k .duePlaces .0); amounts = omega (tests, k .amountPlaces .0); sound = sporadic n z (omega (tests, h)) l k })
 
   -- a full quantum changes an RR thread alone
   pub quantum-fits : ThreadSound start now now b t q → ThreadSound start now now b (fullQuantum t) q
@@ -56,45 +56,45 @@ module _ (start now : ℕ) (b : Bool) (t : Thread) (q : Pending) (d : length (q 
   quantum-fits (sporadic n z h l v) = sporadic n z h (by-two (t .parameters .policy) _ _ _ z ∙ l) v
 
   -- a wake of a blocked thread
-  pub wake-fits : ThreadSound start now now b t q → t .blocked ≡ true → start ≤ now
-      → Fits start now b (withBlocked false (fullQuantum t)) (ifSporadic t (waking now true (t .parameters) (record { server = t .server; pending = q }) .account) (record { server = t .server; pending = q }))
-  wake-fits (absent n e f) w l = false-true (sym (ap (λ (x : Thread). x .blocked) e) ∙ w)
+  pub wake-fits : ThreadSound start now now b t q → isBlocked t ≡ true → start ≤ now
+      → Fits start now b (withBlocked 0 (fullQuantum t)) (ifSporadic t (waking now true (t .parameters) (record { server = t .server; pending = q }) .account) (record { server = t .server; pending = q }))
+  wake-fits (absent n e f) w l = false-true (sym (ap (λ (x : Thread). isBlocked x) e) ∙ w)
   wake-fits (fifo n z h l v f) w g =
-      subst⁻¹ (Fits start now b (withBlocked false (fullQuantum t))) (by-zero (t .parameters .policy) _ _ _ z)
-      (record { dues = d; amounts = m; sound = fifo n z h (by-zero (t .parameters .policy) _ _ _ z ∙ l) v f })
+      subst⁻¹ (Fits start now b (withBlocked 0 (fullQuantum t))) (by-zero (t .parameters .policy) _ _ _ z)
+      (record { dues = d; amounts = m; sound = fifo n z (omega (tests, h)) (by-zero (t .parameters .policy) _ _ _ z ∙ l) v f })
   wake-fits (rr n z h l v f) w g =
-      subst⁻¹ (Fits start now b (withBlocked false (fullQuantum t))) (by-one (t .parameters .policy) _ _ _ z)
+      subst⁻¹ (Fits start now b (withBlocked 0 (fullQuantum t))) (by-one (t .parameters .policy) _ _ _ z)
       (record {
         dues = d;
         amounts = m;
-        sound = rr n z h (subst⁻¹ (λ (y : ℕ). All (leb 1 y ∷ leb y (t .parameters .budget) ∷ [])) (by-one (t .parameters .policy) (t .left) (t .parameters .budget) (t .left) z) (omega (tests, h))) v f;
+        sound = rr n z (omega (tests, h)) (subst⁻¹ (λ (y : ℕ). All (leb 1 y ∷ leb y (t .parameters .budget) ∷ [])) (by-one (t .parameters .policy) (t .left) (t .parameters .budget) (t .left) z) (omega (tests, h))) v f;
       })
   wake-fits (sporadic n z h l v) w g =
-      subst⁻¹ (Fits start now b (withBlocked false (fullQuantum t))) (by-two (t .parameters .policy) _ _ _ z) (by (isUpper (t .parameters) (record { server = t .server; pending = q })) refl)
+      subst⁻¹ (Fits start now b (withBlocked 0 (fullQuantum t))) (by-two (t .parameters .policy) _ _ _ z) (by (isUpper (t .parameters) (record { server = t .server; pending = q })) refl)
     where
       slept : AccountSound start now now false (t .parameters) (record { server = t .server; pending = q })
-      slept = subst (λ (x : Bool). AccountSound start now now x (t .parameters) (record { server = t .server; pending = q })) (cond-true (t .blocked) false _ w) v
+      slept = subst (λ (x : Bool). AccountSound start now now x (t .parameters) (record { server = t .server; pending = q })) (cond-true (isBlocked t) false _ w) v
 
       sent : (u : Bool) (x : Place) → Sent start now now u (t .parameters) x (waking now true (t .parameters) (record { server = t .server; pending = q }))
-          → Fits start now b (withBlocked false (fullQuantum t)) (waking now true (t .parameters) (record { server = t .server; pending = q }) .account)
+          → Fits start now b (withBlocked 0 (fullQuantum t)) (waking now true (t .parameters) (record { server = t .server; pending = q }) .account)
       sent u x k =
           record {
             dues = omega (tests, k .sound .duePlaces .0);
             amounts = omega (tests, k .sound .amountPlaces .0);
-            sound = sporadic n z h (by-two (t .parameters .policy) _ _ _ z ∙ l)
+            sound = sporadic n z (omega (tests, h)) (by-two (t .parameters .policy) _ _ _ z ∙ l)
                 (subst⁻¹ (λ (y : Bool). AccountSound start now now y (t .parameters) (waking now true (t .parameters) (record { server = t .server; pending = q }) .account)) (k .upper) (k .sound));
           }
 
       by : (u : Bool) → isUpper (t .parameters) (record { server = t .server; pending = q }) ≡ u
-          → Fits start now b (withBlocked false (fullQuantum t)) (waking now true (t .parameters) (record { server = t .server; pending = q }) .account)
+          → Fits start now b (withBlocked 0 (fullQuantum t)) (waking now true (t .parameters) (record { server = t .server; pending = q }) .account)
       by true e = sent true Upper (wake-upper start now (t .parameters) now (record { server = t .server; pending = q }) slept g e)
       by false e = sent false Low (wake-low start now (t .parameters) now (record { server = t .server; pending = q }) slept e)
 
 -- the parameters of a set or an opening: in range, with no start flag
-pub set-fits : (start now : ℕ) (t : Thread) (p : Parameters) → start ≤ now → inRange 8 p ≡ true → p .flag ≡ 0
+pub set-fits : (start now : ℕ) (t : Thread) (p : Parameters) → start ≤ now → t .blocked ≤ 1 → inRange 8 p ≡ true → p .flag ≡ 0
     → Fits start now true (renewed p t) (newAccount now p) × (assigned (withServer (newAccount now p .server) (renewed p t)) (newAccount now p .pending .count) ≡ p .priority)
     × (1 ≤ p .priority) × (p .priority ≤ 32)
-set-fits start now t p l r f = go (p .policy) refl (range-out p r)
+set-fits start now t p l w r f = go (p .policy) refl (range-out p r)
   where
     prio : Account → ℕ
     prio a = assigned (withServer (a .server) (renewed p t)) (a .pending .count)
@@ -125,7 +125,7 @@ set-fits start now t p l r f = go (p .policy) refl (range-out p r)
         )
     go (suc (suc zero)) z g =
         let h = sporadic-out p (sym (by-two (p .policy) (fifoInRange p) (rrInRange p) (sporadicInRange 8 p) z) ∙ g .3) in
-        let k = fresh-sound start now p (runsUpper (t .blocked) p (freshAccount now p)) l (omega (tests, h)) (omega (tests, h)) in
+        let k = fresh-sound start now p (runsUpper (isBlocked t) p (freshAccount now p)) l (omega (tests, h)) (omega (tests, h)) in
         let e = by-two (p .policy) noAccount noAccount (freshAccount now p) z in (
           subst⁻¹ (Fits start now true (renewed p t)) e
               (record { dues = refl; amounts = refl; sound = sporadic refl z (omega (tests, h, g .0, g .1, f)) (by-two (p .policy) _ _ _ z) (k .0) }),

@@ -25,9 +25,9 @@ use Rattle.ready.proofs.SoundLaws.{withPlace, sound-same, append-sound, remove-
 use Rattle.passing.proofs.SequenceLaws.{firstOf-zero}
 use Rattle.state.specs.declared.Thread.{Thread}
 use Rattle.state.specs.declared.State.{State}
-use Rattle.state.specs.State.{noThread, threadAt, pendingAt, accountAt, assigned, placeOf, place, withServer}
+use Rattle.state.specs.State.{isBlocked, noThread, threadAt, pendingAt, accountAt, assigned, placeOf, place, withServer}
 use Rattle.rows.proofs.RowLaws.{row-length}
-use Rattle.state.proofs.SoundLaws.{ThreadSound, Sound}
+use Rattle.state.proofs.SoundLaws.{blocked-most, ThreadSound, Sound}
 use Rattle.state.proofs.SoundLaws.ThreadSound.{absent, fifo, rr, sporadic}
 use Rattle.ticks.specs.Running.{level, head, idles}
 use Rattle.ticks.proofs.RunLaws.{by-zero, by-one, by-two}
@@ -62,7 +62,7 @@ waking-same now p a = go (isUpper p a)
     go false = (refl, refl)
 
 wake-assigned : (now : ℕ) (t : Thread) (q : Pending)
-    → placeOf (withServer (ifSporadic t (waking now true (t .parameters) (record { server = t .server; pending = q }) .account) (record { server = t .server; pending = q }) .server) (withBlocked false (fullQuantum t)))
+    → placeOf (withServer (ifSporadic t (waking now true (t .parameters) (record { server = t .server; pending = q }) .account) (record { server = t .server; pending = q }) .server) (withBlocked 0 (fullQuantum t)))
     (ifSporadic t (waking now true (t .parameters) (record { server = t .server; pending = q }) .account) (record { server = t .server; pending = q }) .pending .count)
     ≡ assigned t (q .count)
 wake-assigned now t q =
@@ -107,7 +107,7 @@ module _ (s : State) (h : Sound s) where
     run = runs (λ i. s .now) s h e
 
     standing : place s (head s) ≡ level s
-    standing = cond-false (threadAt s (head s) .blocked) 0 _ (run .awake) ∙ run .stands
+    standing = cond-false (isBlocked (threadAt s (head s))) 0 _ (run .awake) ∙ run .stands
 
     pub block-sound : Sound (block (level s) (head s) (threadAt s (head s)) s)
     block-sound =
@@ -135,10 +135,10 @@ module _ (s : State) (h : Sound s) where
   present i m = omega (tests, h .sizes)
 
   -- a blocked thread stands in no list, and its assigned priority is one
-  pub place-range : (i : ℕ) → i < 32 → threadAt s i .blocked ≡ true → (1 ≤ assigned (threadAt s i) (getD (s .counts) i 0)) × (assigned (threadAt s i) (getD (s .counts) i 0) ≤ 32)
-  place-range i m w = assigned-range (s .header .start) (s .now) (s .now) (ltb i (s .header .n)) (threadAt s i) (pendingAt s i) (h .each i m) (λ n e. false-true (sym (ap (λ (x : Thread). x .blocked) e) ∙ w))
+  pub place-range : (i : ℕ) → i < 32 → isBlocked (threadAt s i) ≡ true → (1 ≤ assigned (threadAt s i) (getD (s .counts) i 0)) × (assigned (threadAt s i) (getD (s .counts) i 0) ≤ 32)
+  place-range i m w = assigned-range (s .header .start) (s .now) (s .now) (ltb i (s .header .n)) (threadAt s i) (pendingAt s i) (h .each i m) (λ n e. false-true (sym (ap (λ (x : Thread). isBlocked x) e) ∙ w))
 
-  pub wake-sound : (i : ℕ) → i < 32 → threadAt s i .blocked ≡ true → Sound (wake i (threadAt s i) s)
+  pub wake-sound : (i : ℕ) → i < 32 → isBlocked (threadAt s i) ≡ true → Sound (wake i (threadAt s i) s)
   wake-sound i m w =
       let r = place-range i m w in
       let f = wake-fits (s .header .start) (s .now) (ltb i (s .header .n)) (threadAt s i) (pendingAt s i) (dues-length i m) (amounts-length i m) (h .each i m) w (omega (tests, h .sizes)) in
@@ -146,7 +146,7 @@ module _ (s : State) (h : Sound s) where
       (appended (assigned (threadAt s i) (getD (s .counts) i 0)) i (s .lists))
       (subst⁻¹ (λ (p : ℕ). ListsSound (withPlace (place s) i p) (occupancy (appended (assigned (threadAt s i) (getD (s .counts) i 0)) i (s .lists))) (appended (assigned (threadAt s i) (getD (s .counts) i 0)) i (s .lists)))
       (wake-assigned (s .now) (threadAt s i) (pendingAt s i))
-      (append-sound (place s) (s .word) (s .lists) (h .lists) i m (assigned (threadAt s i) (getD (s .counts) i 0)) (r .0) (r .1) (cond-true (threadAt s i .blocked) 0 _ w)))
+      (append-sound (place s) (s .word) (s .lists) (h .lists) i m (assigned (threadAt s i) (getD (s .counts) i 0)) (r .0) (r .1) (cond-true (isBlocked (threadAt s i)) 0 _ w)))
 
   -- and so has any thread that is there
   pub there-range : (i : ℕ) → i < s .header .n → (1 ≤ assigned (threadAt s i) (getD (s .counts) i 0)) × (assigned (threadAt s i) (getD (s .counts) i 0) ≤ 32)
@@ -155,12 +155,14 @@ module _ (s : State) (h : Sound s) where
       (λ n e. false-true (sym n ∙ lt-ltb i (s .header .n) m))
 
   pub set-sound : (i : ℕ) → i < s .header .n → (p : Parameters) → inRange 8 p ≡ true → p .flag ≡ 0 → Sound (set i (threadAt s i) p s)
-  set-sound i m p r f = by (threadAt s i .blocked) refl
+  set-sound i m p r f = by (isBlocked (threadAt s i)) refl
     where
       k : Fits (s .header .start) (s .now) true (renewed p (threadAt s i)) (newAccount (s .now) p)
           × (assigned (withServer (newAccount (s .now) p .server) (renewed p (threadAt s i))) (newAccount (s .now) p .pending .count) ≡ p .priority)
           × (1 ≤ p .priority) × (p .priority ≤ 32)
-      k = set-fits (s .header .start) (s .now) (threadAt s i) p (omega (tests, h .sizes)) r f
+      k =
+          set-fits (s .header .start) (s .now) (threadAt s i) p (omega (tests, h .sizes))
+          (blocked-most (s .header .start) (s .now) (s .now) _ (threadAt s i) (pendingAt s i) (h .each i (omega (tests, h .sizes)))) r f
 
       there : ltb i (s .header .n) ≡ true
       there = lt-ltb i (s .header .n) m
@@ -171,30 +173,30 @@ module _ (s : State) (h : Sound s) where
       old : (1 ≤ assigned (threadAt s i) (getD (s .counts) i 0)) × (assigned (threadAt s i) (getD (s .counts) i 0) ≤ 32)
       old = there-range i m
 
-      with-lists : (l : List ℕ) → ListsSound (withPlace (place s) i (cond (threadAt s i .blocked) 0 (p .priority))) (occupancy l) l
+      with-lists : (l : List ℕ) → ListsSound (withPlace (place s) i (cond (isBlocked (threadAt s i)) 0 (p .priority))) (occupancy l) l
           → Sound (withLists l (withAccount i (renewed p (threadAt s i)) (newAccount (s .now) p) s))
       with-lists l q =
           renew i (present i m) _ _ fits refl l
-          (subst⁻¹ (λ (y : ℕ). ListsSound (withPlace (place s) i (cond (threadAt s i .blocked) 0 y)) (occupancy l) l) (k .1) q)
+          (subst⁻¹ (λ (y : ℕ). ListsSound (withPlace (place s) i (cond (isBlocked (threadAt s i)) 0 y)) (occupancy l) l) (k .1) q)
 
-      by : (b : Bool) → threadAt s i .blocked ≡ b → Sound (set i (threadAt s i) p s)
+      by : (b : Bool) → isBlocked (threadAt s i) ≡ b → Sound (set i (threadAt s i) p s)
       by true w =
-          subst⁻¹ (λ (l : List ℕ). Sound (withLists l (withAccount i (renewed p (threadAt s i)) (newAccount (s .now) p) s))) (cond-true (threadAt s i .blocked) (s .lists) _ w)
+          subst⁻¹ (λ (l : List ℕ). Sound (withLists l (withAccount i (renewed p (threadAt s i)) (newAccount (s .now) p) s))) (cond-true (isBlocked (threadAt s i)) (s .lists) _ w)
           (with-lists (s .lists)
-          (subst (λ (x : ℕ). ListsSound (withPlace (place s) i (cond (threadAt s i .blocked) 0 (p .priority))) x (s .lists)) (h .lists .agrees)
-          (sound-same (place s) (withPlace (place s) i (cond (threadAt s i .blocked) 0 (p .priority))) (s .word) (s .lists) (λ j n. go j (ℕ-discrete j i)) (h .lists))))
+          (subst (λ (x : ℕ). ListsSound (withPlace (place s) i (cond (isBlocked (threadAt s i)) 0 (p .priority))) x (s .lists)) (h .lists .agrees)
+          (sound-same (place s) (withPlace (place s) i (cond (isBlocked (threadAt s i)) 0 (p .priority))) (s .word) (s .lists) (λ j n. go j (ℕ-discrete j i)) (h .lists))))
         where
-          go : (j : ℕ) → Dec (j ≡ i) → withPlace (place s) i (cond (threadAt s i .blocked) 0 (p .priority)) j ≡ place s j
+          go : (j : ℕ) → Dec (j ≡ i) → withPlace (place s) i (cond (isBlocked (threadAt s i)) 0 (p .priority)) j ≡ place s j
           go j (yes e) =
-              cond-true (eqb j i) _ _ (eq-eqb j i e) ∙ cond-true (threadAt s i .blocked) 0 (p .priority) w ∙ sym (cond-true (threadAt s i .blocked) 0 _ w) ∙ ap (place s) (sym e)
+              cond-true (eqb j i) _ _ (eq-eqb j i e) ∙ cond-true (isBlocked (threadAt s i)) 0 (p .priority) w ∙ sym (cond-true (isBlocked (threadAt s i)) 0 _ w) ∙ ap (place s) (sym e)
           go j (no e) = cond-false (eqb j i) _ _ (ne-eqb j i e)
       by false w =
-          subst⁻¹ (λ (l : List ℕ). Sound (withLists l (withAccount i (renewed p (threadAt s i)) (newAccount (s .now) p) s))) (cond-false (threadAt s i .blocked) (s .lists) _ w)
+          subst⁻¹ (λ (l : List ℕ). Sound (withLists l (withAccount i (renewed p (threadAt s i)) (newAccount (s .now) p) s))) (cond-false (isBlocked (threadAt s i)) (s .lists) _ w)
           (with-lists (moved i (assigned (threadAt s i) (getD (s .counts) i 0)) (p .priority) (s .lists))
           (subst⁻¹ (λ (y : ℕ). ListsSound (withPlace (place s) i y) (occupancy (moved i (assigned (threadAt s i) (getD (s .counts) i 0)) (p .priority) (s .lists))) (moved i (assigned (threadAt s i) (getD (s .counts) i 0)) (p .priority) (s .lists)))
-          (cond-false (threadAt s i .blocked) 0 (p .priority) w)
+          (cond-false (isBlocked (threadAt s i)) 0 (p .priority) w)
           (move-sound (place s) (s .word) (s .lists) (h .lists) i (present i m) (assigned (threadAt s i) (getD (s .counts) i 0)) (p .priority) (old .0) (old .1)
-          (cond-false (threadAt s i .blocked) 0 _ w) (k .2) (k .3))))
+          (cond-false (isBlocked (threadAt s i)) 0 _ w) (k .2) (k .3))))
 
 -- ---- an event that is accepted
 
@@ -221,13 +223,13 @@ module _ (s : State) (h : Sound s) (e : Event) (f : fieldStatus s e ≡ 0) (g : 
       )
 
   -- and the state, at its time
-  pub state : (k : ℕ) → e .kind ≡ k → (cond (eqb k 1) (idles s) (eqb k 2 && idles s) ≡ false) × ((eqb k 3 && not (threadAt s (e .thread) .blocked)) ≡ false)
+  pub state : (k : ℕ) → e .kind ≡ k → (cond (eqb k 1) (idles s) (eqb k 2 && idles s) ≡ false) × ((eqb k 3 && not (isBlocked (threadAt s (e .thread)))) ≡ false)
   unfolding stateStatusOf
   state k z =
       let a = firstOf-zero _ _ g in
       let b = firstOf-zero _ _ (a .1) in (
         subst (λ (x : ℕ). cond (eqb x 1) (idles s) (eqb x 2 && idles s) ≡ false) z (no-status _ 7 (omega arith) (a .0)),
-        subst (λ (x : ℕ). (eqb x 3 && not (threadAt s (e .thread) .blocked)) ≡ false) z (no-status _ 8 (omega arith) (b .0)),
+        subst (λ (x : ℕ). (eqb x 3 && not (isBlocked (threadAt s (e .thread)))) ≡ false) z (no-status _ 8 (omega arith) (b .0)),
       )
 
   pub effect-sound : Sound (effect s e)
@@ -251,7 +253,7 @@ module _ (s : State) (h : Sound s) (e : Event) (f : fieldStatus s e ≡ 0) (g : 
       go (suc (suc zero)) z = subst⁻¹ Sound (at 2 z) (yield-sound s h (state 2 z .0))
       go (suc (suc (suc zero))) z =
           let m : e .thread < s .header .n = leb-false (s .header .n) (e .thread) (fields 3 z .1) in
-          subst⁻¹ Sound (at 3 z) (wake-sound s h (e .thread) (omega (tests, h .sizes)) (not-false (threadAt s (e .thread) .blocked) (state 3 z .1)))
+          subst⁻¹ Sound (at 3 z) (wake-sound s h (e .thread) (omega (tests, h .sizes)) (not-false (isBlocked (threadAt s (e .thread))) (state 3 z .1)))
       go (suc (suc (suc (suc zero)))) z =
           let m : e .thread < s .header .n = leb-false (s .header .n) (e .thread) (fields 4 z .1) in
           let r = and-both (inRange 8 (e .parameters)) (eqb (e .parameters .flag) 0) (not-false (inRange 8 (e .parameters) && eqb (e .parameters .flag) 0) (fields 4 z .2)) in

@@ -77,9 +77,18 @@ same-range : (p : Parameters) → inRange 8 (withoutFlag p) ≡ inRange 8 p
 unfolding inRange Rattle.records.specs.Ranges.fifoInRange Rattle.records.specs.Ranges.rrInRange Rattle.records.specs.Ranges.sporadicInRange
 same-range p = refl
 
+-- the number of a thread that starts blocked, or not
+flag-most : (b : Bool) → cond b 1 0 ≤ 1
+flag-most true = omega arith
+flag-most false = omega arith
+
+flag-blocks : (b : Bool) → ltb 0 (cond b 1 0) ≡ b
+flag-blocks true = refl
+flag-blocks false = refl
+
 module _ (k : ℕ) (s : State) (h : Entered k s) (l : k < 32) (p : Parameters) (r : inRange 8 p ≡ true) where
   t : Thread
-  t = withBlocked (eqb (p .flag) 0) (threadAt s k)
+  t = withBlocked (cond (eqb (p .flag) 0) 1 0) (threadAt s k)
 
   none : threadAt s k ≡ noThread
   none = empty-place (s .header .start) (s .now) (s .now) k (threadAt s k) (pendingAt s k) (h .each k l)
@@ -90,7 +99,8 @@ module _ (k : ℕ) (s : State) (h : Entered k s) (l : k < 32) (p : Parameters) (
   f : Fits (s .header .start) (s .now) true (renewed (withoutFlag p) t) (newAccount (s .now) (withoutFlag p))
       × (assigned (withServer (newAccount (s .now) (withoutFlag p) .server) (renewed (withoutFlag p) t)) (newAccount (s .now) (withoutFlag p) .pending .count) ≡ p .priority)
       × (1 ≤ p .priority) × (p .priority ≤ 32)
-  f = set-fits (s .header .start) (s .now) t (withoutFlag p) (omega (tests, h .sizes)) (same-range p ∙ r) refl
+  unfolding t
+  f = set-fits (s .header .start) (s .now) t (withoutFlag p) (omega (tests, h .sizes)) (flag-most (eqb (p .flag) 0)) (same-range p ∙ r) refl
 
   ok : Fits (s .header .start) (s .now) (ltb k (suc k)) (renewed (withoutFlag p) t) (newAccount (s .now) (withoutFlag p))
   ok = subst⁻¹ (λ (b : Bool). Fits (s .header .start) (s .now) b (renewed (withoutFlag p) t) (newAccount (s .now) (withoutFlag p))) (lt-ltb k (suc k) (omega arith)) (f .0)
@@ -110,7 +120,8 @@ module _ (k : ℕ) (s : State) (h : Entered k s) (l : k < 32) (p : Parameters) (
       bounds-same (withBound (λ j. s .now) k (s .now)) (λ j. s .now) _
       (changed-at (λ j. s .now) (withN (suc k) s) (omega (tests, h .sizes)) k l (renewed (withoutFlag p) t) (newAccount (s .now) (withoutFlag p)) (s .now) (ok .dues) (ok .amounts) (ok .sound) others
       (omega (arith, h .timed, totals-set (s .threads) k (withServer (newAccount (s .now) (withoutFlag p) .server) (renewed (withoutFlag p) t)) (omega (tests, h .sizes)))) l′
-      (subst⁻¹ (λ (y : ℕ). ListsSound (withPlace (place s) k (cond (eqb (p .flag) 0) 0 y)) (occupancy l′) l′) (f .1) q))
+      (subst⁻¹ (λ (x : Bool). ListsSound (withPlace (place s) k (cond x 0 (assigned (withServer (newAccount (s .now) (withoutFlag p) .server) (renewed (withoutFlag p) t)) (newAccount (s .now) (withoutFlag p) .pending .count)))) (occupancy l′) l′) (flag-blocks (eqb (p .flag) 0))
+      (subst⁻¹ (λ (y : ℕ). ListsSound (withPlace (place s) k (cond (eqb (p .flag) 0) 0 y)) (occupancy l′) l′) (f .1) q)))
       (λ j n. go (eqb j k))
     where
       go : (b : Bool) → s .now ≡ cond b (s .now) (s .now)

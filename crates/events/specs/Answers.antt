@@ -7,7 +7,7 @@ use Rattle.records.specs.declared.Event.{Event}
 use Rattle.records.specs.Ranges.{mostReplenishments, lastTime, longestStep, inRange, allZero, noParameters}
 use Rattle.passing.specs.Sequence.{Machine, firstOf}
 use Rattle.state.specs.declared.State.{State}
-use Rattle.state.specs.State.{threadAt}
+use Rattle.state.specs.State.{isBlocked, threadAt}
 use Rattle.state.specs.Sound.{soundState}
 use Rattle.ticks.specs.Running.{idles, running}
 use Rattle.moments.specs.Moments.{clock}
@@ -44,7 +44,7 @@ stateStatusOf kind idle blocked =
     ∷ [])
 
 abbrev pub stateStatus : State → Event → ℕ
-stateStatus s e = stateStatusOf (e .kind) (idles s) (threadAt s (e .thread) .blocked)
+stateStatus s e = stateStatusOf (e .kind) (idles s) (isBlocked (threadAt s (e .thread)))
 
 -- Readings 6: an extra clock reading: kind 0, and every other field 0
 abbrev pub reading : ℕ → Event

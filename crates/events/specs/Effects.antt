@@ -1,6 +1,6 @@
 -- What each kind of event does to the state at its time (Events 2 to 6).
 use Prim.Native.Nat.{ℕ, zero, suc}
-use mathlib.Core.Bool.{Bool, true, false, cond}
+use mathlib.Core.Bool.{true, false, cond}
 use lib.ListN.{getD, replicate}
 use Rattle.records.specs.declared.Parameters.{Parameters}
 use Rattle.records.specs.declared.Event.{Event}
@@ -11,11 +11,12 @@ use Rattle.account.specs.Rules.{blocking, waking}
 use Rattle.ready.specs.Lists.{appended, removed, moved}
 use Rattle.state.specs.declared.Thread.{Thread}
 use Rattle.state.specs.declared.State.{State}
-use Rattle.state.specs.State.{noServer, threadAt, accountAt, assigned}
+use Rattle.state.specs.State.{isBlocked, noServer, threadAt, accountAt, assigned}
 use Rattle.ticks.specs.Running.{level, head}
 use Rattle.moments.specs.Changes.{withThread, withLists, withLeft, withAccount}
 
-abbrev pub withBlocked : Bool → Thread → Thread
+-- blocked (1) or runnable (0)
+abbrev pub withBlocked : ℕ → Thread → Thread
 withBlocked b t = record { parameters = t .parameters; blocked = b; total = t .total; left = t .left; server = t .server }
 
 -- Events 4 and 5: an RR thread gets a full quantum
@@ -30,7 +31,7 @@ ifSporadic t new a = byPolicy (t .parameters .policy) a a new
 abbrev pub block : ℕ → ℕ → Thread → State → State
 block p i t s =
     withLists (removed p i (s .lists))
-    (withAccount i (withBlocked true t) (ifSporadic t (blocking (s .now) false (t .parameters) (accountAt s i) .account) (accountAt s i)) s)
+    (withAccount i (withBlocked 1 t) (ifSporadic t (blocking (s .now) false (t .parameters) (accountAt s i) .account) (accountAt s i)) s)
 
 -- Events 4: the running thread i becomes the tail of its list p; the activation time stays
 abbrev pub yield : ℕ → ℕ → Thread → State → State
@@ -40,7 +41,7 @@ yield p i t s = withLists (moved i p p (s .lists)) (withThread i (fullQuantum t)
 abbrev pub wake : ℕ → Thread → State → State
 wake i t s =
     withLists (appended (assigned t (getD (s .counts) i 0)) i (s .lists))
-    (withAccount i (withBlocked false (fullQuantum t)) (ifSporadic t (waking (s .now) true (t .parameters) (accountAt s i) .account) (accountAt s i)) s)
+    (withAccount i (withBlocked 0 (fullQuantum t)) (ifSporadic t (waking (s .now) true (t .parameters) (accountAt s i) .account) (accountAt s i)) s)
 
 -- State 17: no account
 abbrev pub noAccount : Account
@@ -56,7 +57,7 @@ newAccount now p = byPolicy (p .policy) noAccount noAccount (freshAccount now p)
 -- Events 6: thread i has new parameters; a runnable one becomes the tail of its new list
 abbrev pub set : ℕ → Thread → Parameters → State → State
 set i t p s =
-    withLists (cond (t .blocked) (s .lists) (moved i (assigned t (getD (s .counts) i 0)) (p .priority) (s .lists)))
+    withLists (cond (isBlocked t) (s .lists) (moved i (assigned t (getD (s .counts) i 0)) (p .priority) (s .lists)))
     (withAccount i (renewed p t) (newAccount (s .now) p) s)
 
 -- Events 2 to 6: by the kind

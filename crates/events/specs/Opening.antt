@@ -38,7 +38,7 @@ withoutFlag p = record { policy = p .policy; priority = p .priority; low = p .lo
 abbrev pub entered : ℕ → Parameters → State → State
 entered i p s =
     withLists (cond (eqb (p .flag) 0) (s .lists) (appended (p .priority) i (s .lists)))
-    (withAccount i (renewed (withoutFlag p) (withBlocked (eqb (p .flag) 0) (threadAt s i))) (newAccount (s .now) (withoutFlag p)) s)
+    (withAccount i (renewed (withoutFlag p) (withBlocked (cond (eqb (p .flag) 0) 1 0) (threadAt s i))) (newAccount (s .now) (withoutFlag p)) s)
 
 -- Events 7: the first n threads of the table, in number order
 unfoldable pub enteredBelow : ℕ → List Parameters → State → State

@@ -7,7 +7,7 @@ use Rattle.records.specs.declared.Event.{Event}
 use Rattle.account.specs.declared.Account.{Account}
 use Rattle.account.specs.Rules.{blocking, waking}
 use Rattle.state.specs.declared.Thread.{Thread}
-use Rattle.state.specs.State.{placeOf}
+use Rattle.state.specs.State.{isBlocked, placeOf}
 use Rattle.events.specs.Effects.{withBlocked, fullQuantum, ifSporadic, renewed, newAccount, byKind}
 use Rattle.executive.specs.declared.effects.Change.{Change}
 use Rattle.executive.specs.Steps.{changeOf}
@@ -27,15 +27,15 @@ module _ (e : Event) (t : Thread) (a : Account) where
   changeAt k =
       byKind k
       (record { thread = t; account = a; from = 0; to = 0 })
-      (record { thread = withBlocked true t; account = ifSporadic t (blocking (e .time) false (t .parameters) a .account) a; from = here; to = 0 })
+      (record { thread = withBlocked 1 t; account = ifSporadic t (blocking (e .time) false (t .parameters) a .account) a; from = here; to = 0 })
       (record { thread = fullQuantum t; account = a; from = here; to = here })
       (record {
-        thread = withBlocked false (fullQuantum t);
+        thread = withBlocked 0 (fullQuantum t);
         account = ifSporadic t (waking (e .time) true (t .parameters) a .account) a;
         from = 0;
-        to = placeOf (withBlocked false (fullQuantum t)) (a .pending .count);
+        to = placeOf (withBlocked 0 (fullQuantum t)) (a .pending .count);
       })
-      (record { thread = renewed (e .parameters) t; account = newAccount (e .time) (e .parameters); from = here; to = cond (t .blocked) 0 (e .parameters .priority) })
+      (record { thread = renewed (e .parameters) t; account = newAccount (e .time) (e .parameters); from = here; to = cond (isBlocked t) 0 (e .parameters .priority) })
 
   pub change-at : (k : ℕ) → e .kind ≡ k → changeOf e t a ≡ changeAt k
   unfolding changeOf

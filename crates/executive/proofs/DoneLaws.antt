@@ -19,7 +19,7 @@ use Rattle.ready.proofs.SoundLaws.{leavable, joinable, movable}
 use Rattle.state.specs.declared.Thread.{Thread}
 use Rattle.state.specs.declared.State.{State}
 use Rattle.rows.specs.Rows.{withRow}
-use Rattle.state.specs.State.{threadAt, pendingAt, accountAt, assigned, place, withServer}
+use Rattle.state.specs.State.{isBlocked, threadAt, pendingAt, accountAt, assigned, place, withServer}
 use Rattle.state.specs.Sound.{soundState}
 use Rattle.state.proofs.SoundLaws.{Sound, range-out, state-out}
 use Rattle.ticks.specs.Running.{level, head, idles}
@@ -66,7 +66,7 @@ module _ (s : State) (a : soundState s ≡ true) (e : Event) (f : fieldStatus s 
     run = runs (λ i. s .now) s h d
 
     stands : place s (head s) ≡ level s
-    stands = cond-false (threadAt s (head s) .blocked) 0 _ (run .awake) ∙ run .stands
+    stands = cond-false (isBlocked (threadAt s (head s))) 0 _ (run .awake) ∙ run .stands
 
     somewhere : place s (head s) ≡ 0 → ⊥
     somewhere z = omega (arith, run .range .0, stands)
@@ -84,7 +84,7 @@ module _ (s : State) (a : soundState s ≡ true) (e : Event) (f : fieldStatus s 
         from = refl;
         to = omega arith;
         is =
-            ap₂ (λ (l : List ℕ) (x : ℕ). withLists l (withAccount w (withBlocked true t) (ifSporadic t (blocking x false (t .parameters) (accountAt s w) .account) (accountAt s w)) s))
+            ap₂ (λ (l : List ℕ) (x : ℕ). withLists l (withAccount w (withBlocked 1 t) (ifSporadic t (blocking x false (t .parameters) (accountAt s w) .account) (accountAt s w)) s))
             (sym (shift-leaves w (s .lists) (place s w) 0 (somewhere d) refl) ∙ ap (λ (x : ℕ). removed x w (s .lists)) (stands d)) timed
             ∙ sym (effect-at s e 1 z);
       }
@@ -113,10 +113,10 @@ module _ (s : State) (a : soundState s ≡ true) (e : Event) (f : fieldStatus s 
       let r = place-range s h w (y .1) (y .2) in
       record {
         small = y .1;
-        from = sym (cond-true (t .blocked) 0 _ (y .2));
+        from = sym (cond-true (isBlocked t) 0 _ (y .2));
         to = r .1;
         is =
-            ap₂ (λ (l : List ℕ) (x : ℕ). withLists l (withAccount w (withBlocked false (fullQuantum t)) (ifSporadic t (waking x true (t .parameters) (accountAt s w) .account) (accountAt s w)) s))
+            ap₂ (λ (l : List ℕ) (x : ℕ). withLists l (withAccount w (withBlocked 0 (fullQuantum t)) (ifSporadic t (waking x true (t .parameters) (accountAt s w) .account) (accountAt s w)) s))
             (sym (shift-joins w (s .lists) 0 (assigned t (getD (s .counts) w 0)) refl (λ q. omega (arith, r .0)))) timed
             ∙ sym (effect-at s e 3 z);
       }
@@ -132,10 +132,10 @@ module _ (s : State) (a : soundState s ≡ true) (e : Event) (f : fieldStatus s 
       record {
         small = omega (tests, h .sizes, y .1);
         from = refl;
-        to = cond-most (t .blocked) (p .priority) 32 (n .1);
+        to = cond-most (isBlocked t) (p .priority) 32 (n .1);
         is =
             ap₂ (λ (l : List ℕ) (x : ℕ). withLists l (withAccount w (renewed p t) (newAccount x p) s))
-            (set-lists (t .blocked) w (assigned t (getD (s .counts) w 0)) (p .priority) (s .lists) (r .0) (n .0)) timed
+            (set-lists (isBlocked t) w (assigned t (getD (s .counts) w 0)) (p .priority) (s .lists) (r .0) (n .0)) timed
             ∙ sym (effect-at s e 4 z);
       }
 

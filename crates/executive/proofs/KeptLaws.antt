@@ -16,7 +16,7 @@ use Rattle.ready.proofs.SoundLaws.{highest-sound, idle}
 use Rattle.passing.proofs.TimeLaws.{keeps, sound-advance}
 use Rattle.state.specs.declared.Thread.{Thread}
 use Rattle.state.specs.declared.State.{State}
-use Rattle.state.specs.State.{noThread, threadAt, assigned, place}
+use Rattle.state.specs.State.{isBlocked, noThread, threadAt, assigned, place}
 use Rattle.state.specs.Sound.{soundState}
 use Rattle.state.proofs.SoundLaws.{ThreadSound, Sound, state-out}
 use Rattle.state.proofs.SoundLaws.ThreadSound.{absent, fifo, rr, sporadic}
@@ -42,10 +42,11 @@ choose-blocked : (b : Bool) (ts : List Thread) (i : ℕ) (t : Thread) (k : ℕ) 
 choose-blocked true ts i t k e = refl
 choose-blocked false ts i t k e = set-blocked ts i t k e
 
-blocked-kept : (s : State) (t k : ℕ) → threadAt (passed s t) k .blocked ≡ threadAt s k .blocked
+blocked-kept : (s : State) (t k : ℕ) → isBlocked (threadAt (passed s t) k) ≡ isBlocked (threadAt s k)
 blocked-kept s t k =
-    keeps clock (λ (v : State). threadAt v k .blocked) (λ n v. choose-blocked (idles v) (v .threads) (head v) _ k refl)
-    (keeps-fire (λ (v : State). threadAt v k .blocked) (λ i o v. set-blocked (v .threads) i _ k refl) (λ p i v. set-blocked (v .threads) i _ k refl)) s t
+    ap (λ (n : ℕ). ltb 0 n)
+    (keeps clock (λ (v : State). threadAt v k .blocked) (λ n v. choose-blocked (idles v) (v .threads) (head v) _ k refl)
+    (keeps-fire (λ (v : State). threadAt v k .blocked) (λ i o v. set-blocked (v .threads) i _ k refl) (λ p i v. set-blocked (v .threads) i _ k refl)) s t)
 
 header-kept : (s : State) (t : ℕ) → passed s t .header ≡ s .header
 header-kept s t = keeps clock (λ (v : State). v .header) (λ k v. refl) header-fire s t
@@ -58,11 +59,11 @@ is-there start now lo b t q (rr n z g k v f) l = n
 is-there start now lo b t q (sporadic n z g k v) l = n
 
 -- a runnable thread that is there has something run
-awake-runs : (u : State) → Sound u → (k : ℕ) → k < u .header .n → k < 32 → threadAt u k .blocked ≡ false → idles u ≡ false
+awake-runs : (u : State) → Sound u → (k : ℕ) → k < u .header .n → k < 32 → isBlocked (threadAt u k) ≡ false → idles u ≡ false
 awake-runs u h k m l w = go (idles u) refl
   where
     somewhere : 1 ≤ place u k
-    somewhere = omega (arith, there-range u h k m .0, cond-false (threadAt u k .blocked) 0 (assigned (threadAt u k) (getD (u .counts) k 0)) w)
+    somewhere = omega (arith, there-range u h k m .0, cond-false (isBlocked (threadAt u k)) 0 (assigned (threadAt u k) (getD (u .counts) k 0)) w)
 
     empty : level u ≡ 0 → ⊥
     empty z = by (eqb (u .word) 0) refl
@@ -76,7 +77,7 @@ awake-runs u h k m l w = go (idles u) refl
     go false e = e
 
 -- of two sound states with the same threads and the same of them blocked: where something runs in one, it does in the other
-runs-too : (s u : State) → Sound s → Sound u → u .header .n ≡ s .header .n → ((k : ℕ) → threadAt u k .blocked ≡ threadAt s k .blocked) → idles s ≡ false → idles u ≡ false
+runs-too : (s u : State) → Sound s → Sound u → u .header .n ≡ s .header .n → ((k : ℕ) → isBlocked (threadAt u k) ≡ isBlocked (threadAt s k)) → idles s ≡ false → idles u ≡ false
 runs-too s u a b n f e =
     let r = runs (λ i. s .now) s a e in
     let t = is-there _ _ _ (ltb (head s) (s .header .n)) (threadAt s (head s)) _ (a .each (head s) (r .small)) (omega (arith, r .stands, r .range .0)) in

@@ -102,18 +102,18 @@ module _ (start n : ℕ) (table : List Parameters) where
 
 -- ---- a thread enters
 
-module _ (s : State) (k i : ℕ) (ei : i ≡ k) (p q : Parameters) (eq : q ≡ withoutFlag p) (t : Thread) (et : t ≡ withBlocked (eqb (p .flag) 0) (threadAt s i))
+module _ (s : State) (k i : ℕ) (ei : i ≡ k) (p q : Parameters) (eq : q ≡ withoutFlag p) (t : Thread) (et : t ≡ withBlocked (cond (eqb (p .flag) 0) 1 0) (threadAt s i))
     (u : Thread) (eu : u ≡ renewed q t) (b : Account) (eb : b ≡ newAccount (s .now) q) (r : State) (er : r ≡ withAccount i u b s) where
   new : ℕ → State
-  new j = withAccount j (renewed (withoutFlag p) (withBlocked (eqb (p .flag) 0) (threadAt s j))) (newAccount (s .now) (withoutFlag p)) s
+  new j = withAccount j (renewed (withoutFlag p) (withBlocked (cond (eqb (p .flag) 0) 1 0) (threadAt s j))) (newAccount (s .now) (withoutFlag p)) s
 
   put : r ≡ new k
   unfolding new
   put =
       er
       ∙ ap (λ (x : Thread). withAccount i x b s) (eu ∙ ap (renewed q) et)
-      ∙ ap (λ (x : Account). withAccount i (renewed q (withBlocked (eqb (p .flag) 0) (threadAt s i))) x s) eb
-      ∙ ap (λ (x : Parameters). withAccount i (renewed x (withBlocked (eqb (p .flag) 0) (threadAt s i))) (newAccount (s .now) x) s) eq
+      ∙ ap (λ (x : Account). withAccount i (renewed q (withBlocked (cond (eqb (p .flag) 0) 1 0) (threadAt s i))) x s) eb
+      ∙ ap (λ (x : Parameters). withAccount i (renewed x (withBlocked (cond (eqb (p .flag) 0) 1 0) (threadAt s i))) (newAccount (s .now) x) s) eq
       ∙ ap new ei
 
   abbrev after : Bool → List ℕ

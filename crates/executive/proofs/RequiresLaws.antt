@@ -12,7 +12,7 @@ use Rattle.account.specs.Sound.{runsUpper}
 use Rattle.account.proofs.SoundLaws.{AccountSound, upper-room}
 use Rattle.state.specs.declared.Thread.{Thread}
 use Rattle.state.specs.declared.State.{State}
-use Rattle.state.specs.State.{threadAt, pendingAt}
+use Rattle.state.specs.State.{isBlocked, threadAt, pendingAt}
 use Rattle.state.specs.Sound.{soundState}
 use Rattle.state.proofs.SoundLaws.{ThreadSound, Sound, state-out}
 use Rattle.state.proofs.SoundLaws.ThreadSound.{absent, fifo, rr, sporadic}
@@ -23,10 +23,10 @@ use Rattle.events.proofs.EventLaws.{and-both, fields, state}
 use borrow.Author.Tests.{leb-false, not-false}
 
 -- a due a period after the activation fits, and where something is charged there is room for one more
-used-room : (start now : ℕ) (t : Thread) (q : Pending) (u : Bool) → runsUpper (t .blocked) (t .parameters) (record { server = t .server; pending = q }) ≡ u → t .parameters .«max_repl» ≤ 8
-    → AccountSound start now now (runsUpper (t .blocked) (t .parameters) (record { server = t .server; pending = q })) (t .parameters) (record { server = t .server; pending = q })
+used-room : (start now : ℕ) (t : Thread) (q : Pending) (u : Bool) → runsUpper (isBlocked t) (t .parameters) (record { server = t .server; pending = q }) ≡ u → t .parameters .«max_repl» ≤ 8
+    → AccountSound start now now (runsUpper (isBlocked t) (t .parameters) (record { server = t .server; pending = q })) (t .parameters) (record { server = t .server; pending = q })
     → 0 < t .server .used → q .count < 8
-used-room start now t q true e m v l = go (t .blocked) e
+used-room start now t q true e m v l = go (isBlocked t) e
   where
     go : (b : Bool) → runsUpper b (t .parameters) (record { server = t .server; pending = q }) ≡ true → q .count < 8
     go true f = false-true f
@@ -65,10 +65,10 @@ module _ (s : State) (a : soundState s ≡ true) where
     pub yield-fits : e .kind ≡ 2 → (soundState s ≡ true) × (idles s ≡ false)
     yield-fits z = (a, state s sound e f g 2 z .0)
 
-    pub wake-fits : e .kind ≡ 3 → (soundState s ≡ true) × (e .thread < 32) × (threadAt s (e .thread) .blocked ≡ true)
+    pub wake-fits : e .kind ≡ 3 → (soundState s ≡ true) × (e .thread < 32) × (isBlocked (threadAt s (e .thread)) ≡ true)
     wake-fits z =
         let m = leb-false (s .header .n) (e .thread) (fields s sound e f g 3 z .1) in
-        (a, omega (tests, sound .sizes, m), not-false (threadAt s (e .thread) .blocked) (state s sound e f g 3 z .1))
+        (a, omega (tests, sound .sizes, m), not-false (isBlocked (threadAt s (e .thread))) (state s sound e f g 3 z .1))
 
     pub set-fits : e .kind ≡ 4 → (soundState s ≡ true) × (e .thread < s .header .n) × (inRange 8 (e .parameters) ≡ true)
     set-fits z = (

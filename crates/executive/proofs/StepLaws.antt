@@ -14,7 +14,7 @@ use Rattle.passing.specs.Time.{dueBy}
 use Rattle.passing.proofs.TimeLaws.{due-true, sound-advance, now-advance, advance-advance}
 use Rattle.passing.proofs.SequenceLaws.{answer-accepted, answer-refused, unsound-answer, firstOf-zero}
 use Rattle.state.specs.declared.State.{State}
-use Rattle.state.specs.State.{threadAt}
+use Rattle.state.specs.State.{isBlocked, threadAt}
 use Rattle.state.specs.Sound.{soundState}
 use Rattle.state.proofs.SoundLaws.{state-in, state-out}
 use Rattle.ticks.specs.Running.{running, next, idles}
@@ -107,14 +107,14 @@ module _ (s : State) (e : Event) (a : soundState s ≡ true) where
         ∙ status-kept s e a (times .0) (times .1)
 
   -- the status that is found before time passes; i is the place of the thread that the event names
-  module _ (i : ℕ) (f : e .thread < 32 → i ≡ e .thread) (k : ℕ) (is : k ≡ soundStatus (s .header .n) (s .now) (s .word) (threadAt s i .blocked) e) where
+  module _ (i : ℕ) (f : e .thread < 32 → i ≡ e .thread) (k : ℕ) (is : k ≡ soundStatus (s .header .n) (s .now) (s .word) (isBlocked (threadAt s i)) e) where
     abbrev late : ℕ
-    late = stateStatusOf (e .kind) (idles s) (threadAt s i .blocked)
+    late = stateStatusOf (e .kind) (idles s) (isBlocked (threadAt s i))
 
     named : early ≡ 0 → stateStatus s e ≡ late
     named z =
         let m = thread-small (s .header .n) e (omega (tests, state-out s a .sizes)) (fields z) in
-        ap (λ (j : ℕ). stateStatusOf (e .kind) (idles s) (threadAt s j .blocked)) (sym (f m))
+        ap (λ (j : ℕ). stateStatusOf (e .kind) (idles s) (isBlocked (threadAt s j))) (sym (f m))
 
     judged : status executive s e ≡ k
     judged = go early refl
@@ -127,7 +127,7 @@ module _ (s : State) (e : Event) (a : soundState s ≡ true) where
     refusal : (k ≡ 0 → ⊥) → answered k s ≡ eventAnswer s e
     refusal d =
         refused-is k judged (omega (arith, d))
-        (omega (arith, is, two-small early late 8 (omega (arith, early-small (s .header .n) (s .now) e)) (state-small (e .kind) (idles s) (threadAt s i .blocked))))
+        (omega (arith, is, two-small early late 8 (omega (arith, early-small (s .header .n) (s .now) e)) (state-small (e .kind) (idles s) (isBlocked (threadAt s i)))))
 
     -- accepted
     module _ (y : k ≡ 0) where
@@ -203,7 +203,7 @@ module _ (s₀ : State) (e : Event) (s : State) (o : Open s₀ e s) where
 
 -- the first
 module _ (s : State) (e : Event) (a : soundState s ≡ true) (i : ℕ) (f : e .thread < 32 → i ≡ e .thread) (k : ℕ)
-    (is : k ≡ soundStatus (s .header .n) (s .now) (s .word) (threadAt s i .blocked) e) where
+    (is : k ≡ soundStatus (s .header .n) (s .now) (s .word) (isBlocked (threadAt s i)) e) where
   pub starts : Stage s e k s (not (eqb k 0))
   starts =
       record {

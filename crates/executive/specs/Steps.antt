@@ -10,7 +10,7 @@ use Rattle.ready.specs.Lists.{appended, removed, moved}
 use Rattle.ready.specs.Word.{highestOf}
 use Rattle.passing.specs.Sequence.{firstOf}
 use Rattle.state.specs.declared.Thread.{Thread}
-use Rattle.state.specs.State.{placeOf}
+use Rattle.state.specs.State.{isBlocked, placeOf}
 use Rattle.events.specs.Effects.{withBlocked, fullQuantum, ifSporadic, renewed, newAccount, byKind}
 use Rattle.events.specs.Answers.{stateStatusOf}
 use Rattle.executive.specs.declared.effects.Change.{Change}
@@ -26,23 +26,23 @@ changeOf e t a =
     byKind (e .kind)
     (record { thread = t; account = a; from = 0; to = 0 })
     (record {
-      thread = withBlocked true t;
+      thread = withBlocked 1 t;
       account = ifSporadic t (blocking (e .time) false (t .parameters) a .account) a;
       from = placeOf t (a .pending .count);
       to = 0;
     })
     (record { thread = fullQuantum t; account = a; from = placeOf t (a .pending .count); to = placeOf t (a .pending .count) })
     (record {
-      thread = withBlocked false (fullQuantum t);
+      thread = withBlocked 0 (fullQuantum t);
       account = ifSporadic t (waking (e .time) true (t .parameters) a .account) a;
       from = 0;
-      to = placeOf (withBlocked false (fullQuantum t)) (a .pending .count);
+      to = placeOf (withBlocked 0 (fullQuantum t)) (a .pending .count);
     })
     (record {
       thread = renewed (e .parameters) t;
       account = newAccount (e .time) (e .parameters);
       from = placeOf t (a .pending .count);
-      to = cond (t .blocked) 0 (e .parameters .priority);
+      to = cond (isBlocked t) 0 (e .parameters .priority);
     })
 
 -- thread k leaves list p and becomes the tail of list q, 0 for none

@@ -68,7 +68,7 @@ pub(super) fn change_of(e: Event, t: Thread, a: Account) -> Change
     let here = state::assigned_place(t, a.pending.count);
     if e.kind == 1 {
         return Change {
-            thread: parts::with_blocked(true, t),
+            thread: parts::with_blocked(1, t),
             account: parts::after_block(e.time, t, a),
             from: here,
             to: 0,
@@ -83,7 +83,7 @@ pub(super) fn change_of(e: Event, t: Thread, a: Account) -> Change
         };
     }
     if e.kind == 3 {
-        let u = parts::with_blocked(false, parts::full_quantum(t));
+        let u = parts::with_blocked(0, parts::full_quantum(t));
         return Change {
             thread: u,
             account: parts::after_wake(e.time, t, a),
@@ -96,7 +96,7 @@ pub(super) fn change_of(e: Event, t: Thread, a: Account) -> Change
         thread: parts::renew(p, t),
         account: parts::new_account(e.time, p),
         from: here,
-        to: new_place(t.blocked, p.priority),
+        to: new_place(0 < t.blocked, p.priority),
     }
 }
 

@@ -120,7 +120,7 @@ fn run(mut s: State, e: Event, known: bool) -> Answer
     }
     let x = parts::index(e.thread);
     let named = s.threads[x];
-    let status = answers::status_of(header.n, s.now, s.word, named.blocked, e);
+    let status = answers::status_of(header.n, s.now, s.word, 0 < named.blocked, e);
     let mut done = status != 0;
     loop {
         let n = s.header.n as usize;

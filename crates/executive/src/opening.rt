@@ -1,6 +1,6 @@
 // Opening: whether a table may be opened, and the state that its threads give.
 ghost use mathlib.Core.Path.{_≡_};
-ghost use mathlib.Core.Bool.{false, _&&_};
+ghost use mathlib.Core.Bool.{false, cond, _&&_};
 ghost use Prim.Native.Nat.{_<_, _≤_};
 ghost use lib.Dec.{leb, eqb};
 ghost use lib.ListN.{length, getD};
@@ -31,7 +31,7 @@ pub(super) fn empty_state(n: u32, start: u64) -> State
             budget: 0,
             period: 0,
         },
-        blocked: false,
+        blocked: 0,
         total: 0,
         left: 0,
         server: Server {
@@ -113,6 +113,16 @@ pub(super) fn open_status(start: u64, n: u32, table: [Parameters; 32]) -> u8
     6
 }
 
+// A thread opened without the start flag is blocked.
+fn starts_blocked(flag: u32) -> u8
+    ensures { λ r. ⌜ r ≡ cond (eqb flag 0) 1 0 ⌝ }
+{
+    if flag == 0 {
+        return 1;
+    }
+    0
+}
+
 // Thread k enters with its parameters; with the start flag it becomes the tail of its list.
 fn enter(s: State, k: u8, p: Parameters) -> State
     requires { ⌜ (k < 32) × (length (s .dues) ≡ 256) × (length (s .amounts) ≡ 256) × (s .word ≡ occupancy (s .lists))
@@ -122,7 +132,7 @@ fn enter(s: State, k: u8, p: Parameters) -> State
     let i = parts::wide(k);
     let q = without_flag(p);
     let none = s.threads[i];
-    let t = parts::with_blocked(p.flag == 0, none);
+    let t = parts::with_blocked(starts_blocked(p.flag), none);
     let u = parts::renew(q, t);
     let b = parts::new_account(s.now, q);
     let mut r = effects::put(s, i, u, b);

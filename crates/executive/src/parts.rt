@@ -32,8 +32,8 @@ pub(super) fn index(x: u8) -> usize
     0
 }
 
-// A thread that is blocked, or not.
-pub(super) fn with_blocked(b: bool, t: Thread) -> Thread
+// A thread that is blocked (1) or runnable (0).
+pub(super) fn with_blocked(b: u8, t: Thread) -> Thread
     ensures { λ r. ⌜ r ≡ withBlocked b t ⌝ }
 {
     let p = t.parameters;

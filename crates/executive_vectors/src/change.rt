@@ -33,7 +33,7 @@ fn of_thread(t: Thread, what: u64, value: u64) -> Thread {
     let p = t.parameters;
     u.parameters = of_parameters(p, what, value);
     match what {
-        21 => u.blocked = value == 1,
+        21 => u.blocked = byte(value),
         22 => u.total = value,
         23 => u.left = value,
         24 => u.server.capacity = value,

@@ -34,7 +34,7 @@ pub(super) fn seen(s: State, op: u8, i: usize) -> [u64; 4] {
     match op {
         b'a' => [v.capacity, v.used, v.activation, wide(s.counts[i])],
         b'd' => [s.dues[k], s.amounts[k], s.dues[k + 1], s.amounts[k + 1]],
-        b't' => [t.total, t.left, t.blocked as u64, s.idle],
+        b't' => [t.total, t.left, wide(t.blocked), s.idle],
         _ => [99; 4],
     }
 }

@@ -65,7 +65,7 @@ pub(super) fn event(op: u8, x: [u64; 20]) -> Event {
 pub(super) fn zeros() -> State {
     let nobody = Thread {
         parameters: none(),
-        blocked: false,
+        blocked: 0,
         total: 0,
         left: 0,
         server: Server {

@@ -22,7 +22,7 @@ use Rattle.passing.proofs.TimeLaws.{due-true, due-false}
 use Rattle.state.specs.declared.Thread.{Thread}
 use Rattle.state.specs.declared.State.{State}
 use Rattle.rows.specs.Rows.{rowAt, withRow}
-use Rattle.state.specs.State.{threadAt, pendingAt, accountAt, withServer}
+use Rattle.state.specs.State.{isBlocked, threadAt, pendingAt, accountAt, withServer}
 use Rattle.rows.proofs.RowLaws.{row-length}
 use Rattle.ticks.specs.declared.Due.{Due}
 use Rattle.ticks.specs.Running.{level, head, ran, charge, limit, nextDue, next}
@@ -461,7 +461,7 @@ module _ (r : Turn) where
       abbrev rule : State → ℕ → Outcome
       rule y n =
           cond (eqb m l) (limitReached (y .now) false (threadAt y n .parameters) (accountAt y n))
-          (returning (y .now) (threadAt y n .blocked) (threadAt y n .parameters) (accountAt y n))
+          (returning (y .now) (isBlocked (threadAt y n)) (threadAt y n .parameters) (accountAt y n))
 
       on-charged : Acted r c j (rule c j)
       on-charged = go (eqb m l) refl
@@ -495,7 +495,7 @@ module _ (r : Turn) where
       abbrev pub ruled : Bool → Outcome
       ruled a =
           cond a (limitReached m false (threadAt u j .parameters) (accountAt u j))
-          (returning m (threadAt u j .blocked) (threadAt u j .parameters) (accountAt u j))
+          (returning m (isBlocked (threadAt u j)) (threadAt u j .parameters) (accountAt u j))
 
       pub acts : (o : Outcome) → ruled (eqb m l) ≡ o → Acted r u j o
       acts o f = subst (Acted r u j) f (subst⁻¹ (λ (y : State). Acted r y j (rule y j)) charged-is on-charged)
@@ -504,7 +504,7 @@ module _ (r : Turn) where
       abbrev effectBy : Bool → Effect
       effectBy a =
           cond a (limitEffect m (threadAt u j .parameters) (threadAt u j .server))
-          (returnEffect m (threadAt u j .blocked) (threadAt u j .parameters) (getD (s .counts) j 0) (getD (s .amounts) (j * 8) 0) (threadAt u j .server))
+          (returnEffect m (isBlocked (threadAt u j)) (threadAt u j .parameters) (getD (s .counts) j 0) (getD (s .amounts) (j * 8) 0) (threadAt u j .server))
 
       abbrev pub leaves : Bool → Effect → Outcome
       leaves a e = outcome (record { server = e .server; pending = entriesAfter a (e .due) (e .amount) (pendingAt u j) }) (e .place)
@@ -517,7 +517,7 @@ module _ (r : Turn) where
           ∙ ap (leaves true) (sym h)
       rule-leaves false f e h =
           ap ruled (sym f)
-          ∙ return-is m (getD (s .counts) j 0) (getD (s .amounts) (j * 8) 0) (threadAt u j .blocked) (threadAt u j .parameters) (threadAt u j .server) (pendingAt u j) (one-due (sym f))
+          ∙ return-is m (getD (s .counts) j 0) (getD (s .amounts) (j * 8) 0) (isBlocked (threadAt u j)) (threadAt u j .parameters) (threadAt u j .server) (pendingAt u j) (one-due (sym f))
           ∙ ap (leaves false) (sym h)
 
       -- a limit that adds an entry has room for it

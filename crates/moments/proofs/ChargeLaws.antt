@@ -25,7 +25,7 @@ use Rattle.ready.proofs.SoundLaws.{sound-same, highest-sound}
 use Rattle.state.specs.declared.Thread.{Thread}
 use Rattle.state.specs.declared.State.{State}
 use Rattle.rows.specs.Rows.{rowAt}
-use Rattle.state.specs.State.{noThread, threadAt, pendingAt, assigned, placeOf, place}
+use Rattle.state.specs.State.{isBlocked, noThread, threadAt, pendingAt, assigned, placeOf, place}
 use Rattle.state.proofs.SoundLaws.{ThreadSound, SoundFrom, Sound}
 use Rattle.state.proofs.SoundLaws.ThreadSound.{absent, fifo, rr, sporadic}
 use Rattle.ticks.specs.declared.Due.{Due}
@@ -37,7 +37,7 @@ use Rattle.moments.proofs.DueLaws.{Found, found, row-first, earlier-lef
 -- the running thread
 pub record Runs (s : State) : Type 0 where
   pub small : head s < 32
-  pub awake : threadAt s (head s) .blocked ≡ false
+  pub awake : isBlocked (threadAt s (head s)) ≡ false
   pub stands : assigned (threadAt s (head s)) (getD (s .counts) (head s) 0) ≡ level s
   pub range : (1 ≤ level s) × (level s ≤ 32)
 
@@ -53,7 +53,7 @@ pub runs : (lo : ℕ → ℕ) (s : State) → SoundFrom lo s → idles s ≡ fal
 runs lo s h e =
     let d : level s ≡ 0 → ⊥ = eqb-false (level s) 0 e in
     let r = highest-sound (place s) (s .word) (s .lists) (h .lists) (λ z. d (no-word (s .word) z)) in
-    let y = placed (threadAt s (head s) .blocked) (assigned (threadAt s (head s)) (getD (s .counts) (head s) 0)) (level s) (omega (arith, r .held .low)) (r .stands) in
+    let y = placed (isBlocked (threadAt s (head s))) (assigned (threadAt s (head s)) (getD (s .counts) (head s) 0)) (level s) (omega (arith, r .held .low)) (r .stands) in
     record { small = r .thread; awake = y .0; stands = y .1; range = (r .held .low, r .held .high) }
 
 -- ---- ticks add up
@@ -220,7 +220,7 @@ due-after start now lo b t q (absent n e f) c = absurd (omega (arith, ap (λ (q 
 due-after start now lo b t q (fifo n z h l v f) c = absurd (omega (arith, ap (λ (q : Pending). q .count) f))
 due-after start now lo b t q (rr n z h l v f) c = absurd (omega (arith, ap (λ (q : Pending). q .count) f))
 due-after start now lo b t q (sporadic n z h l v) c =
-    first-after start now lo (runsUpper (t .blocked) (t .parameters) (record { server = t .server; pending = q })) (t .parameters) (record { server = t .server; pending = q }) v c
+    first-after start now lo (runsUpper (isBlocked t) (t .parameters) (record { server = t .server; pending = q })) (t .parameters) (record { server = t .server; pending = q }) v c
 
 pub first-bound : (q : Pending) (m : ℕ) → (0 < q .count → m < getD (q .dues) 0 0) → 0 < firstDue q → m < firstDue q
 first-bound q m f h = go (ℕ-discrete (q .count) 0)
@@ -292,7 +292,7 @@ wait-thread start now now′ lo lo′ b t q (rr n z h a v f) l d = rr n z h a v 
 wait-thread start now now′ lo lo′ b t q (sporadic n z h a v) l d =
     sporadic n z h a
     (time-passes start now lo (t .parameters) (record { server = t .server; pending = q }) now′ lo′
-    (runsUpper (t .blocked) (t .parameters) (record { server = t .server; pending = q })) v l (first-bound q lo′ d))
+    (runsUpper (isBlocked t) (t .parameters) (record { server = t .server; pending = q })) v l (first-bound q lo′ d))
 
 -- ticks that do not use up what the thread runs on
 pub record Within (p k : ℕ) (t : Thread) : Type 0 where
@@ -311,7 +311,7 @@ upper-ran : (k : ℕ) (p : Parameters) (v : Server) (q : Pending) → k < v .cap
 upper-ran k p v q l = rw (lt-ltb 0 (v .capacity - k) (omega arith), lt-ltb 0 (v .capacity) (omega arith))
 
 -- the running thread
-run-thread : (start now lo lo′ k p : ℕ) (b : Bool) (t : Thread) (q : Pending) → ThreadSound start now lo b t q → t .blocked ≡ false → assigned t (q .count) ≡ p → 1 ≤ p
+run-thread : (start now lo lo′ k p : ℕ) (b : Bool) (t : Thread) (q : Pending) → ThreadSound start now lo b t q → isBlocked t ≡ false → assigned t (q .count) ≡ p → 1 ≤ p
     → (0 < q .count → lo′ < getD (q .dues) 0 0) → Within p k t → ThreadSound start (now + k) lo′ b (ran p k t) q
 run-thread start now lo lo′ k p b t q (absent n e f) w a g d m = absurd (omega (arith, ap (λ (x : Thread). assigned x (q .count)) e))
 run-thread start now lo lo′ k p b t q (fifo n z h l v f) w a g d m = fifo n z h (by-zero (t .parameters .policy) _ _ _ z ∙ l) (by-zero (t .parameters .policy) _ _ _ z ∙ v) f
@@ -325,21 +325,21 @@ run-thread start now lo lo′ k p b t q (sporadic n z h l v) w a g d m = go (eqb
         let u = upper-at p t q z (omega (tests, h)) a e in
         let c = m .capacity z e in
         let y : AccountSound start now lo true (t .parameters) (record { server = t .server; pending = q }) =
-        subst (λ (x : Bool). AccountSound start now lo x (t .parameters) (record { server = t .server; pending = q })) (cond-false (t .blocked) false _ w ∙ u) v in
+        subst (λ (x : Bool). AccountSound start now lo x (t .parameters) (record { server = t .server; pending = q })) (cond-false (isBlocked t) false _ w ∙ u) v in
         sporadic n z h (by-two (t .parameters .policy) _ _ _ z ∙ l)
         (subst⁻¹
-        (λ (x : Server). AccountSound start (now + k) lo′ (runsUpper (t .blocked) (t .parameters) (record { server = x; pending = q })) (t .parameters) (record { server = x; pending = q }))
+        (λ (x : Server). AccountSound start (now + k) lo′ (runsUpper (isBlocked t) (t .parameters) (record { server = x; pending = q })) (t .parameters) (record { server = x; pending = q }))
         (ran-upper p k t z e)
         (subst⁻¹ (λ (x : Bool). AccountSound start (now + k) lo′ x (t .parameters) (record { server = charged k (t .server); pending = q }))
-        (cond-false (t .blocked) false _ w ∙ upper-ran k (t .parameters) (t .server) q c ∙ u)
+        (cond-false (isBlocked t) false _ w ∙ upper-ran k (t .parameters) (t .server) q c ∙ u)
         (charge-sound start now lo (t .parameters) (record { server = t .server; pending = q }) k lo′ y (omega arith) (first-bound q lo′ d))))
     go false e =
         sporadic n z h (by-two (t .parameters .policy) _ _ _ z ∙ l)
         (subst⁻¹
-        (λ (x : Server). AccountSound start (now + k) lo′ (runsUpper (t .blocked) (t .parameters) (record { server = x; pending = q })) (t .parameters) (record { server = x; pending = q }))
+        (λ (x : Server). AccountSound start (now + k) lo′ (runsUpper (isBlocked t) (t .parameters) (record { server = x; pending = q })) (t .parameters) (record { server = x; pending = q }))
         (ran-low p k t z e)
         (time-passes start now lo (t .parameters) (record { server = t .server; pending = q }) (now + k) lo′
-        (runsUpper (t .blocked) (t .parameters) (record { server = t .server; pending = q })) v (omega arith) (first-bound q lo′ d)))
+        (runsUpper (isBlocked t) (t .parameters) (record { server = t .server; pending = q })) v (omega arith) (first-bound q lo′ d)))
 
 -- ticks within the limits leave the assigned priority
 assigned-ran : (start now lo p k : ℕ) (b : Bool) (t : Thread) (q : Pending) → ThreadSound start now lo b t q → Within p k t
@@ -412,6 +412,6 @@ charged-sound lo lo′ k s h d w l = go (idles s) refl
             let r = runs lo s h e in
             subst⁻¹ (λ (j : ℕ). placeOf (getD (set (s .threads) (head s) (ran (level s) k (threadAt s (head s)))) j noThread) (getD (s .counts) j 0) ≡ place s j) c
             (rw (getD-set-same (s .threads) (head s) (ran (level s) k (threadAt s (head s))) noThread (omega (tests, h .sizes, r .small)))
-            (ap (λ (a : ℕ). cond (threadAt s (head s) .blocked) 0 a)
+            (ap (λ (a : ℕ). cond (isBlocked (threadAt s (head s))) 0 a)
             (assigned-ran (s .header .start) (s .now) (lo (head s)) (level s) k (ltb (head s) (s .header .n)) (threadAt s (head s)) (pendingAt s (head s)) (h .each (head s) (r .small)) (w e))))
         places i (no c) e = rw (getD-set-other (s .threads) (head s) i (ran (level s) k (threadAt s (head s))) noThread c)

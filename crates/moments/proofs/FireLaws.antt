@@ -26,7 +26,7 @@ use Rattle.ready.proofs.Soundness.{ListsSound}
 use Rattle.ready.proofs.SoundLaws.{withPlace, sound-same, move-sound}
 use Rattle.state.specs.declared.Thread.{Thread}
 use Rattle.state.specs.declared.State.{State}
-use Rattle.state.specs.State.{threadAt, pendingAt, accountAt, placeOf, place, withServer}
+use Rattle.state.specs.State.{isBlocked, threadAt, pendingAt, accountAt, placeOf, place, withServer}
 use Rattle.state.proofs.SoundLaws.{ThreadSound, SoundFrom, Sound, SporadicTests}
 use Rattle.state.proofs.SoundLaws.ThreadSound.{absent, fifo, rr, sporadic}
 use Rattle.ticks.specs.Running.{level, head, idles}
@@ -45,7 +45,7 @@ not-due start now lo b t q (absent n e f) d = absent n e f
 not-due start now lo b t q (fifo n z h l v f) d = fifo n z h l v f
 not-due start now lo b t q (rr n z h l v f) d = rr n z h l v f
 not-due start now lo b t q (sporadic n z h l v) d =
-    sporadic n z h l (none-sound start now lo (runsUpper (t .blocked) (t .parameters) (record { server = t .server; pending = q })) (t .parameters) (record { server = t .server; pending = q }) v d)
+    sporadic n z h l (none-sound start now lo (runsUpper (isBlocked t) (t .parameters) (record { server = t .server; pending = q })) (t .parameters) (record { server = t .server; pending = q }) v d)
 
 -- thread i's turn: its dues are after now when it is done
 module _ (lo : ℕ → ℕ) (s : State) (h : SoundFrom lo s) (i : ℕ) (l : i < 32) (f : s .now ≤ lo i + 1) where
@@ -65,15 +65,15 @@ module _ (lo : ℕ → ℕ) (s : State) (h : SoundFrom lo s) (i : ℕ) (l : i < 
       each j m (no e) = rw (ne-eqb j i e) (h .each j m)
 
   -- what comes back, for a sporadic thread
-  module _ (n : ltb i (s .header .n) ≡ true) (z : threadAt s i .parameters .policy ≡ 2) (g : All (SporadicTests (threadAt s i .parameters))) (a : threadAt s i .left ≡ 0)
-      (v : AccountSound (s .header .start) (s .now) (lo i) (runsUpper (threadAt s i .blocked) (threadAt s i .parameters) (accountAt s i)) (threadAt s i .parameters) (accountAt s i)) where
+  module _ (n : ltb i (s .header .n) ≡ true) (z : threadAt s i .parameters .policy ≡ 2) (g : All (SporadicTests (threadAt s i .parameters) (threadAt s i .blocked))) (a : threadAt s i .left ≡ 0)
+      (v : AccountSound (s .header .start) (s .now) (lo i) (runsUpper (isBlocked (threadAt s i)) (threadAt s i .parameters) (accountAt s i)) (threadAt s i .parameters) (accountAt s i)) where
     -- a sporadic thread's place
     place-by : (c : ℕ) (y : Server) → placeOf (withServer y (threadAt s i)) c
-        ≡ cond (threadAt s i .blocked) 0 (cond (atUpper (threadAt s i .parameters) (y .capacity) c) (threadAt s i .parameters .priority) (threadAt s i .parameters .low))
-    place-by c y = ap (λ (k : ℕ). cond (threadAt s i .blocked) 0 k) (by-two (threadAt s i .parameters .policy) _ _ _ z)
+        ≡ cond (isBlocked (threadAt s i)) 0 (cond (atUpper (threadAt s i .parameters) (y .capacity) c) (threadAt s i .parameters .priority) (threadAt s i .parameters .low))
+    place-by c y = ap (λ (k : ℕ). cond (isBlocked (threadAt s i)) 0 k) (by-two (threadAt s i .parameters .policy) _ _ _ z)
 
     put : (o : Outcome) (x : Place) (b : Bool) → o .place ≡ x
-        → AccountSound (s .header .start) (s .now) (s .now) b (threadAt s i .parameters) (o .account) → runsUpper (threadAt s i .blocked) (threadAt s i .parameters) (o .account) ≡ b
+        → AccountSound (s .header .start) (s .now) (s .now) b (threadAt s i .parameters) (o .account) → runsUpper (isBlocked (threadAt s i)) (threadAt s i .parameters) (o .account) ≡ b
         → ListsSound (withPlace (place s) i (placeOf (withServer (o .account .server) (threadAt s i)) (o .account .pending .count)))
         (occupancy (sentTo x i (threadAt s i .parameters) (s .lists))) (sentTo x i (threadAt s i .parameters) (s .lists))
         → SoundFrom (withBound lo i (s .now)) (withOutcome i o s)
@@ -88,7 +88,7 @@ module _ (lo : ℕ → ℕ) (s : State) (h : SoundFrom lo s) (i : ℕ) (l : i < 
     same-place true x y j k e = refl
     same-place false x y j k e = ap (λ (c : Bool). cond c j k) e
 
-    unmoved : (o : Outcome) → runsUpper (threadAt s i .blocked) (threadAt s i .parameters) (o .account) ≡ runsUpper (threadAt s i .blocked) (threadAt s i .parameters) (accountAt s i)
+    unmoved : (o : Outcome) → runsUpper (isBlocked (threadAt s i)) (threadAt s i .parameters) (o .account) ≡ runsUpper (isBlocked (threadAt s i)) (threadAt s i .parameters) (accountAt s i)
         → ListsSound (withPlace (place s) i (placeOf (withServer (o .account .server) (threadAt s i)) (o .account .pending .count))) (occupancy (s .lists)) (s .lists)
     unmoved o u =
         subst (λ (w : ℕ). ListsSound (withPlace (place s) i (placeOf (withServer (o .account .server) (threadAt s i)) (o .account .pending .count))) w (s .lists)) (h .lists .agrees)
@@ -99,33 +99,33 @@ module _ (lo : ℕ → ℕ) (s : State) (h : SoundFrom lo s) (i : ℕ) (l : i < 
         go j (yes e) =
             cond-true (eqb j i) _ _ (eq-eqb j i e)
             ∙ place-by (o .account .pending .count) (o .account .server)
-            ∙ same-place (threadAt s i .blocked) _ _ (threadAt s i .parameters .priority) (threadAt s i .parameters .low) u
+            ∙ same-place (isBlocked (threadAt s i)) _ _ (threadAt s i .parameters .priority) (threadAt s i .parameters .low) u
             ∙ sym (place-by (getD (s .counts) i 0) (threadAt s i .server))
             ∙ ap (place s) (sym e)
         go j (no e) = cond-false (eqb j i) _ _ (ne-eqb j i e)
 
-    back : (o : Outcome) → Returned (s .header .start) (s .now) (threadAt s i .blocked) (threadAt s i .parameters) (accountAt s i) o → SoundFrom (withBound lo i (s .now)) (withOutcome i o s)
-    back o (stays p q u) = put o Stays (runsUpper (threadAt s i .blocked) (threadAt s i .parameters) (accountAt s i)) p q u (unmoved o u)
+    back : (o : Outcome) → Returned (s .header .start) (s .now) (isBlocked (threadAt s i)) (threadAt s i .parameters) (accountAt s i) o → SoundFrom (withBound lo i (s .now)) (withOutcome i o s)
+    back o (stays p q u) = put o Stays (runsUpper (isBlocked (threadAt s i)) (threadAt s i .parameters) (accountAt s i)) p q u (unmoved o u)
     back o (raised p w u q r) =
-        put o Upper true p q (cond-false (threadAt s i .blocked) false _ w ∙ r)
+        put o Upper true p q (cond-false (isBlocked (threadAt s i)) false _ w ∙ r)
         (subst⁻¹ (λ (y : ℕ). ListsSound (withPlace (place s) i y) (occupancy (moved i (threadAt s i .parameters .low) (threadAt s i .parameters .priority) (s .lists)))
         (moved i (threadAt s i .parameters .low) (threadAt s i .parameters .priority) (s .lists)))
-        (place-by (o .account .pending .count) (o .account .server) ∙ cond-false (threadAt s i .blocked) 0 _ w ∙ cond-true _ (threadAt s i .parameters .priority) (threadAt s i .parameters .low) r)
+        (place-by (o .account .pending .count) (o .account .server) ∙ cond-false (isBlocked (threadAt s i)) 0 _ w ∙ cond-true _ (threadAt s i .parameters .priority) (threadAt s i .parameters .low) r)
         (move-sound (place s) (s .word) (s .lists) (h .lists) i l (threadAt s i .parameters .low) (threadAt s i .parameters .priority) (omega (tests, g)) (omega (tests, g))
-        (place-by (getD (s .counts) i 0) (threadAt s i .server) ∙ cond-false (threadAt s i .blocked) 0 _ w ∙ cond-false _ (threadAt s i .parameters .priority) (threadAt s i .parameters .low) u)
+        (place-by (getD (s .counts) i 0) (threadAt s i .server) ∙ cond-false (isBlocked (threadAt s i)) 0 _ w ∙ cond-false _ (threadAt s i .parameters .priority) (threadAt s i .parameters .low) u)
         (omega (tests, g)) (omega (tests, g))))
 
-    returned : SoundFrom (withBound lo i (s .now)) (withOutcome i (returning (s .now) (threadAt s i .blocked) (threadAt s i .parameters) (accountAt s i)) s)
+    returned : SoundFrom (withBound lo i (s .now)) (withOutcome i (returning (s .now) (isBlocked (threadAt s i)) (threadAt s i .parameters) (accountAt s i)) s)
     returned =
-        back (returning (s .now) (threadAt s i .blocked) (threadAt s i .parameters) (accountAt s i))
-        (return-sound (s .header .start) (s .now) (lo i) (threadAt s i .blocked) (threadAt s i .parameters) (accountAt s i) v f (omega (tests, h .sizes)) (omega (tests, g)))
+        back (returning (s .now) (isBlocked (threadAt s i)) (threadAt s i .parameters) (accountAt s i))
+        (return-sound (s .header .start) (s .now) (lo i) (isBlocked (threadAt s i)) (threadAt s i .parameters) (accountAt s i) v f (omega (tests, h .sizes)) (omega (tests, g)))
 
   pub replenish-sound : SoundFrom (withBound lo i (s .now)) (replenish i s)
   unfolding replenish
   replenish-sound = cond-elim (SoundFrom (withBound lo i (s .now))) (firstIsDue (s .now) (pendingAt s i)) _ s (λ e. due e (h .each i l)) skipped
     where
       due : firstIsDue (s .now) (pendingAt s i) ≡ true → ThreadSound (s .header .start) (s .now) (lo i) (ltb i (s .header .n)) (threadAt s i) (pendingAt s i)
-          → SoundFrom (withBound lo i (s .now)) (withOutcome i (returning (s .now) (threadAt s i .blocked) (threadAt s i .parameters) (accountAt s i)) s)
+          → SoundFrom (withBound lo i (s .now)) (withOutcome i (returning (s .now) (isBlocked (threadAt s i)) (threadAt s i .parameters) (accountAt s i)) s)
       due e (absent n t q) = absurd (omega (arith, due-some (s .now) (threadAt s i .parameters) (accountAt s i) e, ap (λ (q : Pending). q .count) q))
       due e (fifo n z g a v q) = absurd (omega (arith, due-some (s .now) (threadAt s i .parameters) (accountAt s i) e, ap (λ (q : Pending). q .count) q))
       due e (rr n z g a v q) = absurd (omega (arith, due-some (s .now) (threadAt s i .parameters) (accountAt s i) e, ap (λ (q : Pending). q .count) q))
@@ -139,7 +139,7 @@ module _ {A : Type 0} (f : State → A) (fo : (i : ℕ) (o : Outcome) (s : State
   unfolding replenish
   keeps-replenish i s =
       cond-elim (λ (u : State). f u ≡ f s) (firstIsDue (s .now) (pendingAt s i)) _ s
-      (λ e. fo i (returning (s .now) (threadAt s i .blocked) (threadAt s i .parameters) (accountAt s i)) s) (λ e. refl)
+      (λ e. fo i (returning (s .now) (isBlocked (threadAt s i)) (threadAt s i .parameters) (accountAt s i)) s) (λ e. refl)
 
   pub keeps-below : (n : ℕ) (s : State) → f (replenishBelow n s) ≡ f s
   unfolding replenishBelow

@@ -28,7 +28,7 @@ use Rattle.ready.proofs.SoundLaws.{withPlace, sound-same, move-sound}
 use Rattle.state.specs.declared.Thread.{Thread}
 use Rattle.state.specs.declared.State.{State}
 use Rattle.rows.specs.Rows.{rowAt}
-use Rattle.state.specs.State.{noServer, noThread, threadAt, pendingAt, accountAt, assigned, placeOf, place, withServer}
+use Rattle.state.specs.State.{isBlocked, noServer, noThread, threadAt, pendingAt, accountAt, assigned, placeOf, place, withServer}
 use Rattle.rows.proofs.RowLaws.{row-length}
 use Rattle.state.proofs.SoundLaws.{noPending, ThreadSound, SoundFrom, sizeTests, RrTests, SporadicTests}
 use Rattle.state.proofs.SoundLaws.ThreadSound.{absent, fifo, rr, sporadic}
@@ -49,14 +49,14 @@ and-no : (a b : Bool) → (a ≡ true → b ≡ false) → (a && b) ≡ false
 and-no true b f = f refl
 and-no false b f = refl
 
-low-lt : (p : Parameters) → All (SporadicTests p) → p .low < p .priority
-low-lt p g = omega (tests, g)
+low-lt : (p : Parameters) (blocked : ℕ) → All (SporadicTests p blocked) → p .low < p .priority
+low-lt p blocked g = omega (tests, g)
 
-no-limit : (p : ℕ) (t : Thread) (q : Pending) → t .parameters .policy ≡ 2 → All (SporadicTests (t .parameters)) → assigned t (q .count) ≡ p
+no-limit : (p : ℕ) (t : Thread) (q : Pending) → t .parameters .policy ≡ 2 → All (SporadicTests (t .parameters) (t .blocked)) → assigned t (q .count) ≡ p
     → (eqb p (t .parameters .priority) && eqb (t .server .capacity) 0) ≡ false
 no-limit p t q z g a =
     and-no (eqb p (t .parameters .priority)) (eqb (t .server .capacity) 0)
-    (λ e. ne-eqb (t .server .capacity) 0 (λ c. omega (arith, upper-room (t .parameters) (record { server = t .server; pending = q }) (upper-at p t q z (low-lt (t .parameters) g) a e) .0)))
+    (λ e. ne-eqb (t .server .capacity) 0 (λ c. omega (arith, upper-room (t .parameters) (record { server = t .server; pending = q }) (upper-at p t q z (low-lt (t .parameters) (t .blocked) g) a e) .0)))
 
 -- a sound thread in the list of its assigned priority is at no limit
 thread-none : (start now lo p i : ℕ) (b : Bool) (t : Thread) (q : Pending) (s : State) → ThreadSound start now lo b t q → assigned t (q .count) ≡ p
@@ -159,14 +159,14 @@ module _ (lo lo′ : ℕ → ℕ) (k : ℕ) (s : State) (h : SoundFrom lo s) (e 
       l′ (relisted _ l′ q)
 
   standing : place s (head s) ≡ level s
-  standing = cond-false (threadAt s (head s) .blocked) 0 _ (run .awake) ∙ run .stands
+  standing = cond-false (isBlocked (threadAt s (head s))) 0 _ (run .awake) ∙ run .stands
 
   limits-ran : limits (ranState k s) ≡ limitsOf (level s) (head s) (ran (level s) k (threadAt s (head s))) (ranState k s)
   unfolding limits
   limits-ran = cond-false (idles s) _ _ e ∙ ap (λ (t : Thread). limitsOf (level s) (head s) t (ranState k s)) there
 
   -- the end of a quantum
-  module _ (n : ltb (head s) (s .header .n) ≡ true) (z : threadAt s (head s) .parameters .policy ≡ 1) (g : All (RrTests (threadAt s (head s) .parameters)))
+  module _ (n : ltb (head s) (s .header .n) ≡ true) (z : threadAt s (head s) .parameters .policy ≡ 1) (g : All (RrTests (threadAt s (head s) .parameters) (threadAt s (head s) .blocked)))
       (v : threadAt s (head s) .server ≡ noServer) (f : pendingAt s (head s) ≡ noPending) (c : threadAt s (head s) .left ≡ k) where
     t′ : Thread
     t′ = ran (level s) k (threadAt s (head s))
@@ -193,15 +193,15 @@ module _ (lo lo′ : ℕ → ℕ) (k : ℕ) (s : State) (h : SoundFrom lo s) (e 
         -- an RR thread's list is that of its priority
         here : placeOf (withServer (t′ .server) (withLeft (t′ .parameters .budget) t′)) (pendingAt s (head s) .count) ≡ level s
         here =
-            cond-false (threadAt s (head s) .blocked) 0 _ (run .awake)
+            cond-false (isBlocked (threadAt s (head s))) 0 _ (run .awake)
             ∙ by-one (t′ .parameters .policy) _ _ _ z
             ∙ sym (by-one (threadAt s (head s) .parameters .policy) _ _ _ z)
             ∙ run .stands
 
   -- the limit of a sporadic thread
-  module _ (n : ltb (head s) (s .header .n) ≡ true) (z : threadAt s (head s) .parameters .policy ≡ 2) (g : All (SporadicTests (threadAt s (head s) .parameters)))
+  module _ (n : ltb (head s) (s .header .n) ≡ true) (z : threadAt s (head s) .parameters .policy ≡ 2) (g : All (SporadicTests (threadAt s (head s) .parameters) (threadAt s (head s) .blocked)))
       (l : threadAt s (head s) .left ≡ 0)
-      (v : AccountSound (s .header .start) (s .now) (lo (head s)) (runsUpper (threadAt s (head s) .blocked) (threadAt s (head s) .parameters) (accountAt s (head s)))
+      (v : AccountSound (s .header .start) (s .now) (lo (head s)) (runsUpper (isBlocked (threadAt s (head s))) (threadAt s (head s) .parameters) (accountAt s (head s)))
       (threadAt s (head s) .parameters) (accountAt s (head s)))
       (up : eqb (level s) (threadAt s (head s) .parameters .priority) ≡ true) (c : threadAt s (head s) .server .capacity ≡ k) (low : lo′ (head s) ≤ s .now + k) where
     i : ℕ
@@ -219,13 +219,13 @@ module _ (lo lo′ : ℕ → ℕ) (k : ℕ) (s : State) (h : SoundFrom lo s) (e 
 
     upper : isUpper p (accountAt s i) ≡ true
     unfolding i p
-    upper = upper-at (level s) (threadAt s (head s)) (pendingAt s (head s)) z (low-lt (threadAt s (head s) .parameters) g) (run .stands) up
+    upper = upper-at (level s) (threadAt s (head s)) (pendingAt s (head s)) z (low-lt (threadAt s (head s) .parameters) (threadAt s (head s) .blocked) g) (run .stands) up
 
     spent-sound : AccountSound (s .header .start) (s .now + k) (lo′ i) true p spent
     unfolding i p spent
     spent-sound =
         charge-sound (s .header .start) (s .now) (lo (head s)) p (accountAt s i) k (lo′ i)
-        (subst (λ (b : Bool). AccountSound (s .header .start) (s .now) (lo (head s)) b p (accountAt s i)) (cond-false (threadAt s (head s) .blocked) false _ (run .awake) ∙ upper) v)
+        (subst (λ (b : Bool). AccountSound (s .header .start) (s .now) (lo (head s)) b p (accountAt s i)) (cond-false (isBlocked (threadAt s (head s))) false _ (run .awake) ∙ upper) v)
         (omega arith) (first-bound (pendingAt s i) (lo′ i) (d i (run .small)))
 
     account-is : accountAt (ranState k s) i ≡ spent
@@ -263,13 +263,13 @@ module _ (lo lo′ : ℕ → ℕ) (k : ℕ) (s : State) (h : SoundFrom lo s) (e 
         subst⁻¹ (λ (y : Place). SoundFrom (withBound lo′ i (lo′ i)) (withLists (sentTo y i p (s .lists)) (withAccount i ended (o .account) (ranState k s)))) (q .place)
         (again ended (o .account) (lo′ i) (omega (tests, q .sound .duePlaces .0)) (omega (tests, q .sound .amountPlaces .0))
         (sporadic n z g (by-two (ended .parameters .policy) _ _ _ z ∙ l)
-        (subst⁻¹ (λ (y : Bool). AccountSound (s .header .start) (s .now + k) (lo′ i) y p (o .account)) (cond-false (threadAt s (head s) .blocked) false _ (run .awake) ∙ q .upper) (q .sound)))
+        (subst⁻¹ (λ (y : Bool). AccountSound (s .header .start) (s .now + k) (lo′ i) y p (o .account)) (cond-false (isBlocked (threadAt s (head s))) false _ (run .awake) ∙ q .upper) (q .sound)))
         refl (sentTo x i p (s .lists))
         (subst⁻¹ (λ (y : ℕ). ListsSound (withPlace (place s) i y) (occupancy (sentTo x i p (s .lists))) (sentTo x i p (s .lists))) here m))
       where
         here : placeOf (withServer (o .account .server) ended) (o .account .pending .count) ≡ cond b (p .priority) (p .low)
         here =
-            cond-false (threadAt s (head s) .blocked) 0 _ (run .awake)
+            cond-false (isBlocked (threadAt s (head s))) 0 _ (run .awake)
             ∙ by-two (ended .parameters .policy) _ _ _ z
             ∙ ap (λ (y : Bool). cond y (p .priority) (p .low)) (q .upper)
 

@@ -27,7 +27,7 @@ use Rattle.ready.specs.Rules.{Movable}
 use Rattle.ready.proofs.SoundLaws.{withPlace, movable, move-sound}
 use Rattle.state.specs.declared.Thread.{Thread}
 use Rattle.state.specs.declared.State.{State}
-use Rattle.state.specs.State.{noThread, threadAt, pendingAt, accountAt, assigned, place}
+use Rattle.state.specs.State.{isBlocked, noThread, threadAt, pendingAt, accountAt, assigned, place}
 use Rattle.state.proofs.SoundLaws.{ThreadSound, SoundFrom, SporadicTests}
 use Rattle.state.proofs.SoundLaws.ThreadSound.{absent, fifo, rr, sporadic}
 use Rattle.ticks.specs.Running.{level, head, idles, ran, charge, limitOf, limit, next}
@@ -86,9 +86,9 @@ pub record Sendable (word i : ℕ) (p : Parameters) (l : List ℕ) (x : Place) :
   pub upper : x ≡ Upper → Movable word i (p .low) (p .priority) l
 
 -- a sporadic thread's place
-sporadic-place : (t : Thread) (c : ℕ) → t .parameters .policy ≡ 2 → t .blocked ≡ false
-    → cond (t .blocked) 0 (assigned t c) ≡ cond (atUpper (t .parameters) (t .server .capacity) c) (t .parameters .priority) (t .parameters .low)
-sporadic-place t c z w = cond-false (t .blocked) 0 _ w ∙ by-two (t .parameters .policy) _ _ _ z
+sporadic-place : (t : Thread) (c : ℕ) → t .parameters .policy ≡ 2 → isBlocked t ≡ false
+    → cond (isBlocked t) 0 (assigned t c) ≡ cond (atUpper (t .parameters) (t .server .capacity) c) (t .parameters .priority) (t .parameters .low)
+sporadic-place t c z w = cond-false (isBlocked t) 0 _ w ∙ by-two (t .parameters .policy) _ _ _ z
 
 -- ---- at a limit
 
@@ -120,7 +120,7 @@ module _ (lo : ℕ → ℕ) (s : State) (a : SoundFrom lo s) (p : 0 < next s) (e
       ∙ ap (λ (t : Thread). limitsOf (level s) (head s) t (charge (next s - s .now) s)) limit-thread
 
   standing : place s (head s) ≡ level s
-  standing = cond-false (threadAt s (head s) .blocked) 0 _ (run .awake) ∙ run .stands
+  standing = cond-false (isBlocked (threadAt s (head s))) 0 _ (run .awake) ∙ run .stands
 
   -- the end of a quantum
   pub quantum-movable : Movable (s .word) (head s) (level s) (level s) (s .lists)
@@ -159,8 +159,8 @@ module _ (lo : ℕ → ℕ) (s : State) (a : SoundFrom lo s) (p : 0 < next s) (e
     record Sporadic : Type 0 where
       present : ltb (head s) (s .header .n) ≡ true
       policy : threadAt s (head s) .parameters .policy ≡ 2
-      ranges : All (SporadicTests (threadAt s (head s) .parameters))
-      account : AccountSound (s .header .start) (s .now) (lo (head s)) (runsUpper (threadAt s (head s) .blocked) (threadAt s (head s) .parameters) (accountAt s (head s)))
+      ranges : All (SporadicTests (threadAt s (head s) .parameters) (threadAt s (head s) .blocked))
+      account : AccountSound (s .header .start) (s .now) (lo (head s)) (runsUpper (isBlocked (threadAt s (head s))) (threadAt s (head s) .parameters) (accountAt s (head s)))
           (threadAt s (head s) .parameters) (accountAt s (head s))
 
     sporadic-here : Sporadic
@@ -239,9 +239,9 @@ module _ (lo : ℕ → ℕ) (s : State) (a : SoundFrom lo s) (p : 0 < next s) (e
 
 module _ (lo : ℕ → ℕ) (s : State) (a : SoundFrom lo s) (j : ℕ) (l : j < 32) (c : 0 < getD (s .counts) j 0) where
   pub due-sendable : Sendable (s .word) j (threadAt s j .parameters) (s .lists)
-      (returning (s .now) (threadAt s j .blocked) (threadAt s j .parameters) (accountAt s j) .place)
+      (returning (s .now) (isBlocked (threadAt s j)) (threadAt s j .parameters) (accountAt s j) .place)
   due-sendable =
-      returning-by (s .now) (threadAt s j .blocked) (threadAt s j .parameters) (accountAt s j) (Sendable (s .word) j (threadAt s j .parameters) (s .lists))
+      returning-by (s .now) (isBlocked (threadAt s j)) (threadAt s j .parameters) (accountAt s j) (Sendable (s .word) j (threadAt s j .parameters) (s .lists))
       (record {
         stays = λ q. a .lists .agrees;
         low = λ q. absurd (stays-low q);
@@ -255,7 +255,7 @@ module _ (lo : ℕ → ℕ) (s : State) (a : SoundFrom lo s) (j : ℕ) (l : j < 
         upper = λ q. up w u (a .each j l);
       })
     where
-      up : threadAt s j .blocked ≡ false → isUpper (threadAt s j .parameters) (accountAt s j) ≡ false
+      up : isBlocked (threadAt s j) ≡ false → isUpper (threadAt s j .parameters) (accountAt s j) ≡ false
           → ThreadSound (s .header .start) (s .now) (lo j) (ltb j (s .header .n)) (threadAt s j) (pendingAt s j)
           → Movable (s .word) j (threadAt s j .parameters .low) (threadAt s j .parameters .priority) (s .lists)
       up w u (absent n t q) = absurd (omega (arith, ap (λ (q : Pending). q .count) q))
@@ -266,7 +266,7 @@ module _ (lo : ℕ → ℕ) (s : State) (a : SoundFrom lo s) (j : ℕ) (l : j < 
           (sporadic-place (threadAt s j) (getD (s .counts) j 0) z w ∙ cond-false _ _ _ u) (omega (tests, g)) (omega (tests, g))
 
   pub due-is : firstIsDue (s .now) (pendingAt s j) ≡ true
-      → withOutcome j (returning (s .now) (threadAt s j .blocked) (threadAt s j .parameters) (accountAt s j)) s ≡ replenish j s
+      → withOutcome j (returning (s .now) (isBlocked (threadAt s j)) (threadAt s j .parameters) (accountAt s j)) s ≡ replenish j s
   unfolding replenish
   due-is e = sym (cond-true (firstIsDue (s .now) (pendingAt s j)) _ _ e)
 

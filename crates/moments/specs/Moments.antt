@@ -8,7 +8,7 @@ use Rattle.ready.specs.Lists.{moved}
 use Rattle.passing.specs.Time.{Clock, advance}
 use Rattle.state.specs.declared.Thread.{Thread}
 use Rattle.state.specs.declared.State.{State}
-use Rattle.state.specs.State.{threadAt, pendingAt, accountAt}
+use Rattle.state.specs.State.{isBlocked, threadAt, pendingAt, accountAt}
 use Rattle.ticks.specs.Running.{level, head, idles, charge, next}
 use Rattle.moments.specs.Changes.{withThread, withLists, withLeft, withOutcome}
 
@@ -32,7 +32,7 @@ limits s = cond (idles s) s (limitsOf (level s) (head s) (threadAt s (head s)) s
 unfoldable pub replenish : ℕ → State → State
 replenish i s =
     cond (firstIsDue (s .now) (pendingAt s i))
-    (withOutcome i (returning (s .now) (threadAt s i .blocked) (threadAt s i .parameters) (accountAt s i)) s)
+    (withOutcome i (returning (s .now) (isBlocked (threadAt s i)) (threadAt s i .parameters) (accountAt s i)) s)
     s
 
 -- Passing 8: by thread number, of the threads below n

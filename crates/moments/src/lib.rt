@@ -19,6 +19,7 @@ use account::Place;
 use records::Parameters;
 use state::State;
 use state::Thread;
+ghost use Rattle.state.specs.State.{isBlocked};
 
 // Whether the earlier of the two is the limit: where both fall on one instant, the limit comes first.
 fn limit_first(limit: u64, due: u64) -> bool
@@ -111,14 +112,14 @@ fn concerned(limited: bool, runs: usize, due: usize) -> usize
 // What happens to that thread's account: at a limit, or where the first of `count` entries, of this amount, comes back.
 fn effect_at(limited: bool, time: u64, t: Thread, count: u8, amount: u64) -> Effect
     requires { ⌜ (limited ≡ true → t .server .activation + t .parameters .period < 2 ^ 64) ⌝ }
-    ensures { λ r. ⌜ r ≡ cond limited (limitEffect time (t .parameters) (t .server)) (returnEffect time (t .blocked) (t .parameters) count amount (t .server)) ⌝ }
+    ensures { λ r. ⌜ r ≡ cond limited (limitEffect time (t .parameters) (t .server)) (returnEffect time (isBlocked t) (t .parameters) count amount (t .server)) ⌝ }
 {
     let p = t.parameters;
     let v = t.server;
     if limited {
         return account::limit_effect(p, v, time);
     }
-    account::return_first(p, v, count, amount, t.blocked, time)
+    account::return_first(p, v, count, amount, 0 < t.blocked, time)
 }
 
 // How many entries there are then, of `count`: one more where a limit adds an amount, one less where the first came back.

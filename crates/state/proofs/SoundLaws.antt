@@ -6,7 +6,7 @@ use mathlib.Core.List.{List, [], _∷_}
 use lib.ListN.{length, replicate}
 use lib.Dec.{ltb, leb, eqb}
 use native.Mathlib.Omega.{arith}
-use borrow.Author.Tests.{eqb-true, eq-eqb, not-true}
+use borrow.Author.Tests.{eqb-true, eq-eqb}
 use Rattle.records.specs.declared.Parameters.{Parameters}
 use Rattle.records.specs.Tests.{all, zeros, byPolicy}
 use Rattle.records.specs.Ranges.{inRange, allZero, fifoInRange, rrInRange, sporadicInRange, noParameters}
@@ -19,38 +19,44 @@ use Rattle.ready.proofs.Soundness.{ListsSound, sound-true, true-sound}
 use Rattle.rows.proofs.RowLaws.{row-length}
 use Rattle.state.specs.declared.Thread.{Thread}
 use Rattle.state.specs.declared.State.{State}
-use Rattle.state.specs.State.{noServer, noThread, threadAt, pendingAt, place}
+use Rattle.state.specs.State.{isBlocked, noServer, noThread, threadAt, pendingAt, place}
 use Rattle.state.specs.Sound.{noAccountTests, leftTests, accountTest, presentTest, absentTest, threadTest, totals, soundTests, soundState}
 
 -- nothing pending
 abbrev pub noPending : Pending
 noPending = record { count = 0; dues = replicate 8 0; amounts = replicate 8 0 }
 
--- the ranges of each policy's parameters, for omega
-abbrev pub FifoTests : Parameters → List Bool
-FifoTests p = leb 1 (p .priority) ∷ leb (p .priority) 32 ∷ eqb (p .low) 0 ∷ eqb (p .«max_repl») 0 ∷ eqb (p .budget) 0 ∷ eqb (p .period) 0 ∷ eqb (p .flag) 0 ∷ []
+-- the ranges of each policy's parameters and of the number that says whether a thread is blocked, for omega
+abbrev pub FifoTests : Parameters → ℕ → List Bool
+FifoTests p blocked = leb 1 (p .priority) ∷ leb (p .priority) 32 ∷ eqb (p .low) 0 ∷ eqb (p .«max_repl») 0 ∷ eqb (p .budget) 0 ∷ eqb (p .period) 0 ∷ eqb (p .flag) 0 ∷ leb blocked 1 ∷ []
 
-abbrev pub RrTests : Parameters → List Bool
-RrTests p =
+abbrev pub RrTests : Parameters → ℕ → List Bool
+RrTests p blocked =
     leb 1 (p .priority) ∷ leb (p .priority) 32 ∷ eqb (p .low) 0 ∷ eqb (p .«max_repl») 0 ∷ leb 1 (p .budget) ∷ leb (p .budget) 1000000000 ∷ eqb (p .period) 0
-    ∷ eqb (p .flag) 0 ∷ []
+    ∷ eqb (p .flag) 0 ∷ leb blocked 1 ∷ []
 
-abbrev pub SporadicTests : Parameters → List Bool
-SporadicTests p =
+abbrev pub SporadicTests : Parameters → ℕ → List Bool
+SporadicTests p blocked =
     leb 1 (p .priority) ∷ leb (p .priority) 32 ∷ leb 1 (p .low) ∷ ltb (p .low) (p .priority) ∷ leb 1 (p .«max_repl») ∷ leb (p .«max_repl») 8
-    ∷ leb 1 (p .budget) ∷ leb (p .budget) (p .period) ∷ leb (p .period) 1000000000 ∷ eqb (p .flag) 0 ∷ []
+    ∷ leb 1 (p .budget) ∷ leb (p .budget) (p .period) ∷ leb (p .period) 1000000000 ∷ eqb (p .flag) 0 ∷ leb blocked 1 ∷ []
 
 -- what a sound state has at a place: dues are after lo, which is now in a sound state
 pub data ThreadSound (start now lo : ℕ) (present : Bool) (t : Thread) (q : Pending) : Type 0 where
   absent : present ≡ false → t ≡ noThread → q ≡ noPending → ThreadSound start now lo present t q
-  fifo : present ≡ true → t .parameters .policy ≡ 0 → All (FifoTests (t .parameters)) → t .left ≡ 0 → t .server ≡ noServer → q ≡ noPending
+  fifo : present ≡ true → t .parameters .policy ≡ 0 → All (FifoTests (t .parameters) (t .blocked)) → t .left ≡ 0 → t .server ≡ noServer → q ≡ noPending
       → ThreadSound start now lo present t q
-  rr : present ≡ true → t .parameters .policy ≡ 1 → All (RrTests (t .parameters)) → All (leb 1 (t .left) ∷ leb (t .left) (t .parameters .budget) ∷ [])
+  rr : present ≡ true → t .parameters .policy ≡ 1 → All (RrTests (t .parameters) (t .blocked)) → All (leb 1 (t .left) ∷ leb (t .left) (t .parameters .budget) ∷ [])
       → t .server ≡ noServer → q ≡ noPending → ThreadSound start now lo present t q
-  sporadic : present ≡ true → t .parameters .policy ≡ 2 → All (SporadicTests (t .parameters)) → t .left ≡ 0
-      → AccountSound start now lo (runsUpper (t .blocked) (t .parameters) (record { server = t .server; pending = q })) (t .parameters)
+  sporadic : present ≡ true → t .parameters .policy ≡ 2 → All (SporadicTests (t .parameters) (t .blocked)) → t .left ≡ 0
+      → AccountSound start now lo (runsUpper (isBlocked t) (t .parameters) (record { server = t .server; pending = q })) (t .parameters)
       (record { server = t .server; pending = q })
       → ThreadSound start now lo present t q
+
+pub blocked-most : (start now lo : ℕ) (b : Bool) (t : Thread) (q : Pending) → ThreadSound start now lo b t q → t .blocked ≤ 1
+blocked-most start now lo b t q (absent n e f) = omega (arith, ap (λ (x : Thread). x .blocked) e)
+blocked-most start now lo b t q (fifo n z h l v f) = omega (tests, h)
+blocked-most start now lo b t q (rr n z h l v f) = omega (tests, h)
+blocked-most start now lo b t q (sporadic n z h l v) = omega (tests, h)
 
 -- N, the times and the lengths
 abbrev pub sizeTests : State → List Bool
@@ -136,26 +142,26 @@ unfolding presentTest fifoInRange rrInRange sporadicInRange soundAt
 present-out start now t q d x e = go (t .parameters .policy) refl (all-true _ e)
   where
     go : (c : ℕ) → t .parameters .policy ≡ c
-        → All (inRange 8 (t .parameters) ∷ eqb (t .parameters .flag) 0 ∷ all (leftTests t) ∷ accountTest start now t q ∷ [])
+        → All (inRange 8 (t .parameters) ∷ eqb (t .parameters .flag) 0 ∷ leb (t .blocked) 1 ∷ all (leftTests t) ∷ accountTest start now t q ∷ [])
         → ThreadSound start now now true t q
     go zero z h =
         let r = range-out (t .parameters) (h .0) in
         let f = fifo-out (t .parameters) (rw z at (r .3)) in
-        let n = none-out (t .server) q d x (all-true (noAccountTests (t .server) q) (rw z at (h .1 .1 .1 .0))) in
-        let l = all-true (eqb (t .left) 0 ∷ []) (rw z at (h .1 .1 .0)) in
-        fifo refl z (omega (tests, r .0, r .1, f, h .1 .0)) (omega (tests, l)) (n .0) (n .1)
+        let n = none-out (t .server) q d x (all-true (noAccountTests (t .server) q) (rw z at (h .1 .1 .1 .1 .0))) in
+        let l = all-true (eqb (t .left) 0 ∷ []) (rw z at (h .1 .1 .1 .0)) in
+        fifo refl z (omega (tests, r .0, r .1, f, h .1 .0, h .1 .1 .0)) (omega (tests, l)) (n .0) (n .1)
     go (suc zero) z h =
         let r = range-out (t .parameters) (h .0) in
         let f = rr-out (t .parameters) (rw z at (r .3)) in
-        let n = none-out (t .server) q d x (all-true (noAccountTests (t .server) q) (rw z at (h .1 .1 .1 .0))) in
-        let l = all-true (leb 1 (t .left) ∷ leb (t .left) (t .parameters .budget) ∷ []) (rw z at (h .1 .1 .0)) in
-        rr refl z (omega (tests, r .0, r .1, f, h .1 .0)) l (n .0) (n .1)
+        let n = none-out (t .server) q d x (all-true (noAccountTests (t .server) q) (rw z at (h .1 .1 .1 .1 .0))) in
+        let l = all-true (leb 1 (t .left) ∷ leb (t .left) (t .parameters .budget) ∷ []) (rw z at (h .1 .1 .1 .0)) in
+        rr refl z (omega (tests, r .0, r .1, f, h .1 .0, h .1 .1 .0)) l (n .0) (n .1)
     go (suc (suc zero)) z h =
         let r = range-out (t .parameters) (h .0) in
         let f = sporadic-out (t .parameters) (rw z at (r .3)) in
-        let l = all-true (eqb (t .left) 0 ∷ []) (rw z at (h .1 .1 .0)) in
-        sporadic refl z (omega (tests, r .0, r .1, f, h .1 .0)) (omega (tests, l))
-        (sound-out start now (t .blocked) (t .parameters) (record { server = t .server; pending = q }) (rw z at (h .1 .1 .1 .0)))
+        let l = all-true (eqb (t .left) 0 ∷ []) (rw z at (h .1 .1 .1 .0)) in
+        sporadic refl z (omega (tests, r .0, r .1, f, h .1 .0, h .1 .1 .0)) (omega (tests, l))
+        (sound-out start now (isBlocked t) (t .parameters) (record { server = t .server; pending = q }) (rw z at (h .1 .1 .1 .1 .0)))
     go (suc (suc (suc n))) z h = absurd (omega (arith, range-out (t .parameters) (h .0) .2))
 
 zero-out : (p : Parameters) → allZero p ≡ true → p ≡ noParameters
@@ -182,7 +188,7 @@ absent-out start now lo t q d x e =
     absent refl
     (λ j. record {
       parameters = zero-out (t .parameters) (h .0) j;
-      blocked = not-true (t .blocked) (h .1 .0) j;
+      blocked = eqb-true (t .blocked) 0 (h .1 .0) j;
       total = eqb-true (t .total) 0 (h .1 .1 .0) j;
       left = eqb-true (t .left) 0 (h .1 .1 .1 .0) j;
       server = n .0 j;
@@ -193,23 +199,26 @@ unfolding absentTest allZero fifoInRange all
 absent-in t q z n = subst⁻¹ (λ (x : Thread). absentTest x q ≡ true) z (subst⁻¹ (λ (y : Pending). absentTest noThread y ≡ true) n refl)
 
 -- the parts of a present thread's test at a known policy
-present-in : (start now : ℕ) (t : Thread) (q : Pending) (c : ℕ) → t .parameters .policy ≡ c → inRange 8 (t .parameters) ≡ true → t .parameters .flag ≡ 0
+present-in : (start now : ℕ) (t : Thread) (q : Pending) (c : ℕ) → t .parameters .policy ≡ c → inRange 8 (t .parameters) ≡ true → t .parameters .flag ≡ 0 → t .blocked ≤ 1
     → all (byPolicy c (eqb (t .left) 0 ∷ []) (leb 1 (t .left) ∷ leb (t .left) (t .parameters .budget) ∷ []) (eqb (t .left) 0 ∷ [])) ≡ true
     → byPolicy c (all (noAccountTests (t .server) q)) (all (noAccountTests (t .server) q))
-    (soundAt start now (t .blocked) (t .parameters) (record { server = t .server; pending = q })) ≡ true
+    (soundAt start now (isBlocked t) (t .parameters) (record { server = t .server; pending = q })) ≡ true
     → presentTest start now t q ≡ true
 unfolding presentTest
-present-in start now t q c z r f l a =
+present-in start now t q c z r f b l a =
     true-all _ (
       r,
       (
         omega tests,
         (
-          ap (λ (k : ℕ). all (byPolicy k (eqb (t .left) 0 ∷ []) (leb 1 (t .left) ∷ leb (t .left) (t .parameters .budget) ∷ []) (eqb (t .left) 0 ∷ []))) z ∙ l,
+          omega tests,
           (
-            ap (λ (k : ℕ). byPolicy k (all (noAccountTests (t .server) q)) (all (noAccountTests (t .server) q))
-                (soundAt start now (t .blocked) (t .parameters) (record { server = t .server; pending = q }))) z ∙ a,
-            tt,
+            ap (λ (k : ℕ). all (byPolicy k (eqb (t .left) 0 ∷ []) (leb 1 (t .left) ∷ leb (t .left) (t .parameters .budget) ∷ []) (eqb (t .left) 0 ∷ []))) z ∙ l,
+            (
+              ap (λ (k : ℕ). byPolicy k (all (noAccountTests (t .server) q)) (all (noAccountTests (t .server) q))
+                  (soundAt start now (isBlocked t) (t .parameters) (record { server = t .server; pending = q }))) z ∙ a,
+              tt,
+            ),
           ),
         ),
       ),
@@ -221,18 +230,18 @@ thread-in start now b t q (fifo e z h l a n) =
     cond-true b _ _ e
     ∙ present-in start now t q 0 z
     (range-in (t .parameters) 0 z (omega arith) (omega (tests, h)) (omega (tests, h)) (fifo-in (t .parameters) (omega (tests, h))))
-    (omega (tests, h)) (true-all (eqb (t .left) 0 ∷ []) (omega tests)) (none-in (t .server) q a n)
+    (omega (tests, h)) (omega (tests, h)) (true-all (eqb (t .left) 0 ∷ []) (omega tests)) (none-in (t .server) q a n)
 thread-in start now b t q (rr e z h l a n) =
     cond-true b _ _ e
     ∙ present-in start now t q 1 z
     (range-in (t .parameters) 1 z (omega arith) (omega (tests, h)) (omega (tests, h)) (rr-in (t .parameters) (omega (tests, h))))
-    (omega (tests, h)) (true-all (leb 1 (t .left) ∷ leb (t .left) (t .parameters .budget) ∷ []) l) (none-in (t .server) q a n)
+    (omega (tests, h)) (omega (tests, h)) (true-all (leb 1 (t .left) ∷ leb (t .left) (t .parameters .budget) ∷ []) l) (none-in (t .server) q a n)
 thread-in start now b t q (sporadic e z h l a) =
     cond-true b _ _ e
     ∙ present-in start now t q 2 z
     (range-in (t .parameters) 2 z (omega arith) (omega (tests, h)) (omega (tests, h)) (sporadic-in (t .parameters) (omega (tests, h))))
-    (omega (tests, h)) (true-all (eqb (t .left) 0 ∷ []) (omega tests))
-    (sound-in start now (t .blocked) (t .parameters) (record { server = t .server; pending = q }) a)
+    (omega (tests, h)) (omega (tests, h)) (true-all (eqb (t .left) 0 ∷ []) (omega tests))
+    (sound-in start now (isBlocked t) (t .parameters) (record { server = t .server; pending = q }) a)
 
 thread-out : (start now : ℕ) (b : Bool) (t : Thread) (q : Pending) → length (q .dues) ≡ 8 → length (q .amounts) ≡ 8
     → cond b (presentTest start now t q) (absentTest t q) ≡ true → ThreadSound start now now b t q

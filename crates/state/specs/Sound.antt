@@ -1,6 +1,6 @@
 -- When a state is sound (State 5 to 17), as tests that compute.
 use Prim.Native.Nat.{ℕ, _+_}
-use mathlib.Core.Bool.{Bool, cond, not}
+use mathlib.Core.Bool.{Bool, cond}
 use mathlib.Core.List.{List, [], _∷_}
 use lib.ListN.{length}
 use lib.Dec.{ltb, leb, eqb}
@@ -12,7 +12,7 @@ use Rattle.account.specs.Sound.{soundAt}
 use Rattle.ready.specs.Sound.{soundLists}
 use Rattle.state.specs.declared.Thread.{Thread}
 use Rattle.state.specs.declared.State.{State}
-use Rattle.state.specs.State.{threadAt, pendingAt, place}
+use Rattle.state.specs.State.{isBlocked, threadAt, pendingAt, place}
 
 -- State 17: a thread that is not sporadic has no account
 abbrev pub noAccountTests : Server → Pending → List Bool
@@ -33,14 +33,15 @@ accountTest start now t q =
     byPolicy (t .parameters .policy)
     (all (noAccountTests (t .server) q))
     (all (noAccountTests (t .server) q))
-    (soundAt start now (t .blocked) (t .parameters) (record { server = t .server; pending = q }))
+    (soundAt start now (isBlocked t) (t .parameters) (record { server = t .server; pending = q }))
 
--- State 6, 10 to 15, 17: a thread below N
+-- State 2, 6, 10 to 15, 17: a thread below N; it is blocked (1) or runnable (0)
 unfoldable pub presentTest : ℕ → ℕ → Thread → Pending → Bool
 presentTest start now t q =
     all
     (inRange mostReplenishments (t .parameters)
     ∷ eqb (t .parameters .flag) 0
+    ∷ leb (t .blocked) 1
     ∷ all (leftTests t)
     ∷ accountTest start now t q
     ∷ [])
@@ -49,7 +50,7 @@ presentTest start now t q =
 unfoldable pub absentTest : Thread → Pending → Bool
 absentTest t q =
     all
-    (allZero (t .parameters) ∷ not (t .blocked) ∷ eqb (t .total) 0 ∷ eqb (t .left) 0 ∷ all (noAccountTests (t .server) q) ∷ [])
+    (allZero (t .parameters) ∷ eqb (t .blocked) 0 ∷ eqb (t .total) 0 ∷ eqb (t .left) 0 ∷ all (noAccountTests (t .server) q) ∷ [])
 
 abbrev pub threadTest : State → ℕ → Bool
 threadTest s i =

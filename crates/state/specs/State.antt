@@ -1,7 +1,8 @@
 -- The state (State 1 to 4) and its parts.
 use Prim.Native.Nat.{ℕ}
-use mathlib.Core.Bool.{false, cond}
+use mathlib.Core.Bool.{Bool, cond}
 use lib.ListN.{getD}
+use lib.Dec.{ltb}
 use Rattle.records.specs.Tests.{byPolicy}
 use Rattle.records.specs.Ranges.{noParameters}
 use Rattle.account.specs.declared.Server.{Server}
@@ -17,11 +18,15 @@ abbrev pub noServer : Server
 noServer = record { capacity = 0; used = 0; activation = 0 }
 
 abbrev pub noThread : Thread
-noThread = record { parameters = noParameters; blocked = false; total = 0; left = 0; server = noServer }
+noThread = record { parameters = noParameters; blocked = 0; total = 0; left = 0; server = noServer }
 
 -- State 2: thread i
 abbrev pub threadAt : State → ℕ → Thread
 threadAt s i = getD (s .threads) i noThread
+
+-- State 2: whether a thread is blocked: 0 is runnable, and of a sound state any other number is 1
+abbrev pub isBlocked : Thread → Bool
+isBlocked t = ltb 0 (t .blocked)
 
 -- a thread with another server
 abbrev pub withServer : Server → Thread → Thread
@@ -42,7 +47,7 @@ assigned t count =
 
 -- State 7: the list in which a thread stands: that of its assigned priority, and none (0) where it is blocked
 abbrev pub placeOf : Thread → ℕ → ℕ
-placeOf t count = cond (t .blocked) 0 (assigned t count)
+placeOf t count = cond (isBlocked t) 0 (assigned t count)
 
 abbrev pub place : State → ℕ → ℕ
 place s i = placeOf (threadAt s i) (getD (s .counts) i 0)

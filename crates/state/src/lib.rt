@@ -9,12 +9,12 @@ use records::Parameters;
 
 mod tests; // tests.rt: what soundness asks of one thread
 
-// One thread: its parameters, whether it is blocked, its total run time, the quantum left of an RR thread, and the
+// One thread: its parameters, whether it is blocked (1) or runnable (0), its total run time, the quantum left of an RR thread, and the
 // capacity, U and activation time of a sporadic one.
 #[repr(C)]
 pub struct Thread {
     pub parameters: Parameters,
-    pub blocked: bool,
+    pub blocked: u8,
     pub total: u64,
     pub left: u64,
     pub server: Server,
@@ -53,7 +53,7 @@ pub fn with_server(t: Thread, v: Server) -> Thread
 pub fn assigned_place(t: Thread, count: u8) -> u8
     ensures { λ r. ⌜ r ≡ placeOf t count ⌝ }
 {
-    if t.blocked {
+    if 0 < t.blocked {
         return 0;
     }
     let p = t.parameters;

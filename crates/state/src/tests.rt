@@ -102,7 +102,7 @@ fn account_holds<'a>(
         server: s,
         pending: rows::pending_at(counts, dues, amounts, i),
     };
-    account_sound::sound(p, a, t.blocked, start, time)
+    account_sound::sound(p, a, 0 < t.blocked, start, time)
 }
 
 // Whether a thread below N is sound.
@@ -127,6 +127,9 @@ fn present_sound<'a>(
         return false;
     }
     if p.flag != 0 {
+        return false;
+    }
+    if 1 < t.blocked {
         return false;
     }
     if !left_holds(t) {
@@ -154,7 +157,7 @@ fn absent_zero<'a>(
     if !records::all_zero(p) {
         return false;
     }
-    if t.blocked {
+    if t.blocked != 0 {
         return false;
     }
     if t.total != 0 {

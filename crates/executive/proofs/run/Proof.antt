@@ -54,8 +54,8 @@ status-of-requires c κs = tt
 
 loop-holds : tie.Need-loop-holds Inv-loop μ-loop
 loop-holds c =
-    let b = c .before .before .before .before .before .before .before .before .before .before .before .before in
-    starts (b .args .t1) (b .args .e) (sym (c .before .before .before .before .known-sound .ensures) ∙ not-false _ (c .before .before .before .if1 .left)) (c .before .before .index .result) (c .before .before .index .ensures .1) (c .status-of .result) (c .status-of .ensures)
+    let b = c .before .before .before .before .before .before .before .before .before .before .before .before .before in
+    starts (b .args .t1) (b .args .e) (sym (c .before .before .before .before .before .known-sound .ensures) ∙ not-false _ (c .before .before .before .before .if1 .left)) (c .before .before .before .index .result) (c .before .before .before .index .ensures .1) (c .status-of .result) (c .status-of .ensures)
 
 cast-n : tie.Need-cast-n Inv-loop μ-loop
 cast-n c = omega (tests, state-out (c .loop .s) (c .loop .inv .sound) .sizes)
@@ -102,9 +102,9 @@ abbrev stateOf : Still → State
 stateOf c = c .before .before .before .before .before .before .before .before .before .before .before .loop .s
 
 abbrev eventOf : Still → Event
-eventOf c = c .before .before .before .before .before .before .before .before .before .before .before .before .before .before .before .before .before .before .before .before .before .before .before .before .args .e
+eventOf c = c .before .before .before .before .before .before .before .before .before .before .before .before .before .before .before .before .before .before .before .before .before .before .before .before .before .args .e
 
-to-come : (c : Still) → Open (c .before .before .before .before .before .before .before .before .before .before .before .before .before .before .before .before .before .before .before .before .before .before .before .before .args .t1) (eventOf c) (stateOf c)
+to-come : (c : Still) → Open (c .before .before .before .before .before .before .before .before .before .before .before .before .before .before .before .before .before .before .before .before .before .before .before .before .before .args .t1) (eventOf c) (stateOf c)
 to-come c = c .before .before .before .before .before .before .before .before .before .before .before .loop .inv .going (c .if2 .left) .1
 
 -- what is known once the next moment is

@@ -15,7 +15,7 @@ return-first-requires : tie.Need-return-first-requires
 return-first-requires c κs = search needs
 
 returns-2 : tie.Need-returns-2
-returns-2 c = c .return-first .ensures ∙ sym (cond-false _ _ _ (c .before .if1 .left))
+returns-2 c = c .return-first .ensures ∙ sym (cond-false _ _ _ (c .before .before .if1 .left))
 
 pub effect-at-spec : {M : Type 1} → statement M
 effect-at-spec = tie.close (tie.spec limit-effect-requires returns return-first-requires returns-2)

@@ -47,7 +47,7 @@ assigned-place-requires-2 c κs = search needs
 returns-3 : tie.Need-returns-3
 returns-3 c =
     let a = c .before .before .before .before .before .before .before .before .before .before .before .args in
-    let t = c .before .before .with-blocked2 .ensures ∙ ap (withBlocked false) (c .before .before .before .full-quantum2 .ensures) in
+    let t = c .before .before .with-blocked2 .ensures ∙ ap (withBlocked 0) (c .before .before .before .full-quantum2 .ensures) in
     made t (c .before .after-wake .ensures) refl (c .assigned-place2 .ensures ∙ ap (λ (x : Thread). placeOf x (a .a .pending .count)) t)
     ∙ sym (change-at (a .e) (a .t) (a .a) 3 (c .before .before .before .before .if3 .taken))
 
@@ -62,10 +62,10 @@ new-place-requires c κs = search needs
 
 returns-4 : tie.Need-returns-4
 returns-4 c =
-    let b = c .before .before .before .before .before .before .before .before .before .before .before in
+    let b = c .before .before .before .before .before .before .before .before .before .before .before .before in
     let a = b .args in
-    made (c .before .before .renew .ensures) (c .before .new-account .ensures) (c .before .before .before .before .before .before .before .before .before .before .assigned-place .ensures) (c .new-place .ensures)
-    ∙ sym (change-last (a .e) (a .t) (a .a) (b .pre .0) (c .before .before .before .before .before .before .before .before .if1 .left) (c .before .before .before .before .before .before .if2 .left) (c .before .before .before .before .if3 .left))
+    made (c .before .before .before .renew .ensures) (c .before .before .new-account .ensures) (c .before .before .before .before .before .before .before .before .before .before .before .assigned-place .ensures) (c .new-place .ensures)
+    ∙ sym (change-last (a .e) (a .t) (a .a) (b .pre .0) (c .before .before .before .before .before .before .before .before .before .if1 .left) (c .before .before .before .before .before .before .before .if2 .left) (c .before .before .before .before .before .if3 .left))
 
 pub change-of-spec : {M : Type 1} → statement M
 change-of-spec =

@@ -2,14 +2,13 @@
 use borrow.Author.Needs.{needs}
 use mathlib.Core.Path.{ap}
 use Prim.Native.Nat.{ℕ}
-use mathlib.Core.Bool.{Bool}
 use Rattle.records.specs.declared.Parameters.{Parameters}
 use Rattle.account.specs.declared.Server.{Server}
 use Rattle.state.specs.declared.Thread.{Thread}
 use Rattle.executive.proofs.parts.renew.Statement.{statement}
 use Rattle.executive.proofs.parts.renew.Tie as tie
 
-abbrev made : Parameters → Bool → ℕ → ℕ → Server → Thread
+abbrev made : Parameters → ℕ → ℕ → ℕ → Server → Thread
 made p b n l v = record { parameters = p; blocked = b; total = n; left = l; server = v }
 
 quantum-of-requires : tie.Need-quantum-of-requires

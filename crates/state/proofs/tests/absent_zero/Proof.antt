@@ -1,6 +1,6 @@
 -- `state::tests::absent_zero` meets its contract.
-use mathlib.Core.Path.{sym, ap}
-use mathlib.Core.Bool.{Bool, not}
+use mathlib.Core.Path.{sym}
+use mathlib.Core.Bool.{Bool}
 use mathlib.Core.List.{List, [], _∷_}
 use lib.Dec.{eqb}
 use borrow.Author.Tests.{eq-eqb, ne-eqb}
@@ -19,7 +19,7 @@ use Rattle.state.proofs.tests.absent_zero.Tie as tie
 abbrev absentTests : Thread → Pending → List Bool
 absentTests t q =
     allZero (t .parameters)
-    ∷ not (t .blocked)
+    ∷ eqb (t .blocked) 0
     ∷ eqb (t .total) 0
     ∷ eqb (t .left) 0
     ∷ all (noAccountTests (t .server) q)
@@ -34,7 +34,7 @@ returns c = sym (all-false _ 0 (decided-false _ (c .before .all-zero .ensures) (
 
 returns-2 : tie.Need-returns-2
 unfolding absentTest
-returns-2 c = sym (all-false _ 1 (ap not (c .if2 .taken)))
+returns-2 c = sym (all-false _ 1 (ne-eqb _ _ (c .if2 .taken)))
 
 returns-3 : tie.Need-returns-3
 unfolding absentTest
@@ -51,12 +51,12 @@ returns-5 : tie.Need-returns-5
 unfolding absentTest
 returns-5 c =
     let b = c .before .before .before .before in
-    let d = b .before .before .before .before in
+    let d = b .before .before .before .before .before in
     let a = d .before .before .args in
     let q = pendingOf (a .counts .now) (a .dues .now) (a .amounts .now) (a .i) in
     by-last (absentTests (a .t) q) (c .no-account .ensures)
-    (decided-true _ (d .all-zero .ensures) (b .before .before .before .if1 .left)
-    and ap not (b .before .before .if2 .left)
+    (decided-true _ (d .all-zero .ensures) (b .before .before .before .before .if1 .left)
+    and eq-eqb _ _ (b .before .before .if2 .left)
     and eq-eqb _ _ (b .if3 .left)
     and eq-eqb _ _ (c .before .before .if4 .left)
     and tt)

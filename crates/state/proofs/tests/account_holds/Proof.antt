@@ -12,25 +12,26 @@ use Rattle.rows.proofs.RowLaws.{pendingOf}
 use Rattle.state.proofs.TestLaws.{policy-low, policy-sporadic}
 use Rattle.state.proofs.tests.account_holds.Statement.{statement}
 use Rattle.state.proofs.tests.account_holds.Tie as tie
+use Rattle.state.specs.State.{isBlocked}
 
 module _ (start now : ℕ) (t : Thread) (q : Pending) where
   absent : Bool
   absent = all (noAccountTests (t .server) q)
 
   held : Bool
-  held = soundAt start now (t .blocked) (t .parameters) (record { server = t .server; pending = q })
+  held = soundAt start now (isBlocked t) (t .parameters) (record { server = t .server; pending = q })
 
   none : (r : Bool) → r ≡ all (noAccountTests (t .server) q) → t .parameters .policy < 2 → r ≡ accountTest start now t q
   unfolding absent held
   none r e h = e ∙ sym (policy-low (t .parameters .policy) absent held h)
 
   -- p is the pending replenishments that were read
-  some : {p : Pending} (r : Bool) → p ≡ q → r ≡ soundAt start now (t .blocked) (t .parameters) (record { server = t .server; pending = p })
+  some : {p : Pending} (r : Bool) → p ≡ q → r ≡ soundAt start now (isBlocked t) (t .parameters) (record { server = t .server; pending = p })
       → 2 ≤ t .parameters .policy → r ≡ accountTest start now t q
   unfolding absent held
   some r f e h =
       e
-      ∙ ap (λ (x : Pending). soundAt start now (t .blocked) (t .parameters) (record { server = t .server; pending = x })) f
+      ∙ ap (λ (x : Pending). soundAt start now (isBlocked t) (t .parameters) (record { server = t .server; pending = x })) f
       ∙ sym (policy-sporadic (t .parameters .policy) absent absent held h)
 
 no-account-requires : tie.Need-no-account-requires
@@ -50,9 +51,9 @@ sound-requires c κs = search needs
 
 returns-2 : tie.Need-returns-2
 returns-2 c =
-    let a = c .before .before .before .before .before .before .args in
+    let a = c .before .before .before .before .before .before .before .args in
     let q = pendingOf (a .counts .now) (a .dues .now) (a .amounts .now) (a .i) in
-    some (a .start) (a .time) (a .t) q _ (c .before .pending-at .ensures) (c .sound .ensures) (c .before .before .before .if1 .left)
+    some (a .start) (a .time) (a .t) q _ (c .before .before .pending-at .ensures) (c .sound .ensures) (c .before .before .before .before .if1 .left)
 
 pub account-holds-spec : {M : Type 1} → statement M
 account-holds-spec = tie.close (tie.spec no-account-requires returns pending-at-requires sound-requires returns-2)

@@ -3,8 +3,8 @@ use Prim.Native.Nat.{ℕ}
 use mathlib.Core.Bool.{Bool}
 use mathlib.Core.Path.{sym}
 use mathlib.Core.List.{List, [], _∷_}
-use lib.Dec.{eqb}
-use borrow.Author.Tests.{eq-eqb, ne-eqb}
+use lib.Dec.{leb, eqb}
+use borrow.Author.Tests.{eq-eqb, ne-eqb, le-leb, lt-leb}
 use Rattle.records.specs.Tests.{all}
 use Rattle.records.specs.Ranges.{mostReplenishments, inRange}
 use Rattle.records.proofs.TestLaws.{all-false}
@@ -21,6 +21,7 @@ abbrev presentTests : ℕ → ℕ → Thread → Pending → List Bool
 presentTests start now t q =
     inRange mostReplenishments (t .parameters)
     ∷ eqb (t .parameters .flag) 0
+    ∷ leb (t .blocked) 1
     ∷ all (leftTests t)
     ∷ accountTest start now t q
     ∷ []
@@ -36,26 +37,31 @@ returns-2 : tie.Need-returns-2
 unfolding presentTest
 returns-2 c = sym (all-false _ 1 (ne-eqb _ _ (c .if2 .taken)))
 
+returns-3 : tie.Need-returns-3
+unfolding presentTest
+returns-3 c = sym (all-false _ 2 (lt-leb _ _ (c .if3 .taken)))
+
 left-holds-requires : tie.Need-left-holds-requires
 left-holds-requires c κs = search needs
 
-returns-3 : tie.Need-returns-3
+returns-4 : tie.Need-returns-4
 unfolding presentTest
-returns-3 c = sym (all-false _ 2 (decided-false _ (c .before .left-holds .ensures) (c .if3 .taken)))
+returns-4 c = sym (all-false _ 3 (decided-false _ (c .before .left-holds .ensures) (c .if4 .taken)))
 
 account-holds-requires : tie.Need-account-holds-requires
 account-holds-requires c κs = search needs
 
-returns-4 : tie.Need-returns-4
+returns-5 : tie.Need-returns-5
 unfolding presentTest
-returns-4 c =
-    let b = c .before .before .before in
+returns-5 c =
+    let b = c .before .before .before .before .before in
     let a = b .before .before .before .before .before .args in
     let q = pendingOf (a .counts .now) (a .dues .now) (a .amounts .now) (a .i) in
     by-last (presentTests (a .start) (a .time) (a .t) q) (c .account-holds .ensures)
     (decided-true _ (b .before .before .before .in-range .ensures) (b .before .before .if1 .left)
     and eq-eqb _ _ (b .if2 .left)
-    and decided-true _ (c .before .before .left-holds .ensures) (c .before .if3 .left)
+    and le-leb _ _ (c .before .before .before .if3 .left)
+    and decided-true _ (c .before .before .left-holds .ensures) (c .before .if4 .left)
     and tt)
 
 pub present-sound-spec : {M : Type 1} → statement M
@@ -65,7 +71,8 @@ present-sound-spec =
     in-range-requires
     returns
     returns-2
-    left-holds-requires
     returns-3
+    left-holds-requires
+    returns-4
     account-holds-requires
-    returns-4)
+    returns-5)
