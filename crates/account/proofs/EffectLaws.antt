@@ -1,8 +1,7 @@
 -- The rules without the entries are the rules, whatever is pending.
 use Prim.Native.Nat.{ℕ, _≤_, _<_}
 use mathlib.Core.Bool.{Bool, true, false, cond, _&&_}
-use mathlib.Core.Path.{_≡_, refl, sym, ap, ap₂, _∙_}
-use lib.ListN.{getD}
+use mathlib.Core.Path.{_≡_, refl, sym, ap}
 use lib.Dec.{ltb, eqb}
 use native.Mathlib.Omega.{arith}
 use borrow.Author.Tests.{eqb-false, ne-eqb}
@@ -13,9 +12,8 @@ use Rattle.account.specs.declared.Pending.{Pending}
 use Rattle.account.specs.declared.Account.{Account}
 use Rattle.account.specs.declared.Place.the-variants.{Stays, Low, LowThenUpper}
 use Rattle.account.specs.declared.Effect.{Effect}
-use Rattle.account.specs.Account.{atUpper}
-use Rattle.account.specs.Rules.{cleared, dueOf, dueNow, atOnce, madePending, withEntry, withAdded, withoutFirst, replenished, scheduled, activatedServer, activated, outcome, limitReached, firstIsDue, firstBack, raised, returning, effect, scheduleEffect, limitEffect, raiseEffect, returnEffect}
-use Rattle.account.proofs.RuleLaws.{made, back-one, back-done, return-some}
+use Rattle.account.specs.Rules.{cleared, dueOf, dueNow, atOnce, madePending, withEntry, withAdded, replenished, scheduled, activatedServer, activated, outcome, limitReached, raised, effect, scheduleEffect, limitEffect, raiseEffect}
+use Rattle.account.proofs.RuleLaws.{made}
 
 -- an amount that is not 0 becomes pending
 pub added-some : (due amount : ℕ) (q : Pending) → 0 < amount → withEntry due amount q ≡ withAdded due amount q
@@ -65,20 +63,3 @@ pub raise-is : (now : ℕ) (b up : Bool) (s : Server) (q : Pending) → raised n
 raise-is now true up s q = refl
 raise-is now false true s q = refl
 raise-is now false false s q = refl
-
--- of `count` pending replenishments the first, of this amount, is due and no other is
-pub record OneDue (now count amount : ℕ) (q : Pending) : Type 0 where
-  pub counted : q .count ≡ count
-  pub first : getD (q .amounts) 0 0 ≡ amount
-  pub due : firstIsDue now q ≡ true
-  pub others : firstIsDue now (withoutFirst q) ≡ false
-
--- then it is all that comes back
-pub return-is : (now count amount : ℕ) (b : Bool) (p : Parameters) (s : Server) (q : Pending) → OneDue now count amount q
-    → returning now b p (made s q) ≡ outcome (made (returnEffect now b p count amount s .server) (withoutFirst q)) (returnEffect now b p count amount s .place)
-unfolding returnEffect
-return-is now count amount b p s q d =
-    return-some now p (made s q) b (d .due)
-    ∙ ap₂ (λ (n : ℕ) (a : Account). raised now b (atUpper p (s .capacity) n) a) (d .counted)
-    (sym (back-one now p (made s q) (d .due)) ∙ back-done now p (firstBack p (made s q)) _ (d .others) ∙ ap (λ (x : ℕ). made (replenished x p s) (withoutFirst q)) (d .first))
-    ∙ raise-is now b (atUpper p (s .capacity) count) (replenished amount p s) (withoutFirst q)

@@ -4,3 +4,4 @@ pub mod EffectLaws
 pub mod EntryLaws
 pub mod RuleLaws
 pub mod SoundLaws
+pub mod ReturnLaws

@@ -8,18 +8,18 @@ use lib.Seq.{take-append-le, drop-append-le, take-suc-set, drop-set-lt, drop-dro
 use lib.Dec.{ltb, leb, eqb}
 use native.Mathlib.Numerals.{add-one}
 use native.Mathlib.Omega.{arith}
-use borrow.Author.Tests.{lt-ltb, le-ltb, ltb-true, lt-leb, leb-false, ne-eqb}
+use borrow.Author.Tests.{lt-ltb, le-ltb, ltb-true, leb-false, ne-eqb}
 use Rattle.records.specs.declared.Parameters.{Parameters}
-use Rattle.records.proofs.TestLaws.{tests, All, all-true, true-all, false-true, zeros-drop, zeros-append, zeros-replicate}
+use Rattle.records.proofs.TestLaws.{tests, All, all-true, true-all, false-true, zeros-drop, zeros-append, zeros-replicate, cond-elim}
 use Rattle.account.specs.declared.Account.{Account}
 use Rattle.account.specs.declared.Outcome.{Outcome}
 use Rattle.account.specs.declared.Place.{Place}
 use Rattle.account.specs.declared.Place.the-variants.{Stays, Low, LowThenUpper, Upper}
 use Rattle.account.specs.Account.{dues, amounts, isUpper, firstDue, freshAccount}
-use Rattle.account.specs.Rules.{charged, dueOf, dueNow, shifted, withoutFirst, atOnce, madePending, scheduled, activated, limitReached, blocking, waking, firstIsDue, firstBack, allBack, returning}
+use Rattle.account.specs.Rules.{charged, dueOf, dueNow, shifted, atOnce, madePending, scheduled, activated, limitReached, blocking, waking, firstIsDue, firstBack, allBack, returning}
 use Rattle.account.specs.Sound.{sum, positive, dueTests, dueEnd, numberTests, amountTests, placeTests, runsUpper, soundTests, soundAt}
 use Rattle.account.proofs.ChargeLaws.{charge-sum}
-use Rattle.account.proofs.RuleLaws.{scheduled-none, scheduled-once, scheduled-later, limit-once, limit-later, back-done, back-one, due-some, first-due, return-none, return-blocked, return-upper, return-low}
+use Rattle.account.proofs.RuleLaws.{scheduled-none, scheduled-once, scheduled-later, limit-once, limit-later, back-one, due-some, return-none, return-blocked, return-upper, return-low}
 
 -- dues are after lo, which is now in a sound account; `up`: runnable at the upper priority
 pub record AccountSound (start now lo : ℕ) (up : Bool) (p : Parameters) (a : Account) : Type 0 where
@@ -292,20 +292,20 @@ pop-sum : (n : ℕ) (xs : List ℕ) → suc n ≤ length xs → All (positive (t
 pop-sum n [] l g = absurd (omega arith)
 pop-sum n (x ∷ xs) l g = (refl, omega (tests, g .0), g .1)
 
-pop-times : (lo hi n : ℕ) (ds : List ℕ) → suc n ≤ length ds → All (dueTests lo hi (take (suc n) ds))
-    → (lo < getD ds 0 0) × All (dueTests (getD ds 0 0) hi (drop 1 (take (suc n) ds)))
+pop-times : (lo hi n : ℕ) (ds : List ℕ) → suc n ≤ length ds → All (dueTests lo hi (take (suc n) ds)) → All (dueTests lo hi (drop 1 (take (suc n) ds)))
 pop-times lo hi n [] l g = absurd (omega arith)
-pop-times lo hi n (d ∷ ds) l g = (omega (tests, g .0), g .1 .1)
+pop-times lo hi n (d ∷ ds) l g = sooner (take n ds) (g .1 .1)
+  where
+    sooner : (xs : List ℕ) → All (dueTests d hi xs) → All (dueTests lo hi xs)
+    sooner [] h = tt
+    sooner (x ∷ xs) h = (omega (tests, g .0, h .0), h .1)
 
 module _ (start now lo : ℕ) (up : Bool) (p : Parameters) (a : Account) (h : AccountSound start now lo up p a) where
-  -- the first comes back at the instant at which it is due
-  pub back-sound : firstIsDue now (a .pending) ≡ true → now ≤ lo + 1 → AccountSound start now now up p (firstBack p a)
-  back-sound e l = go (a .pending .count) refl
+  -- the first comes back: the others are no earlier
+  pub back-sound : firstIsDue now (a .pending) ≡ true → AccountSound start now lo up p (firstBack p a)
+  back-sound e = go (a .pending .count) refl
     where
-      due : getD (a .pending .dues) 0 0 ≤ now
-      due = first-due now p a e
-
-      go : (n : ℕ) → a .pending .count ≡ n → AccountSound start now now up p (firstBack p a)
+      go : (n : ℕ) → a .pending .count ≡ n → AccountSound start now lo up p (firstBack p a)
       go zero z = absurd (omega (arith, due-some now p a e))
       go (suc n) z =
           let m : a .pending .count - 1 ≡ n = omega arith in
@@ -313,12 +313,10 @@ module _ (start now lo : ℕ) (up : Bool) (p : Parameters) (a : Account) (h : Ac
           let lt : suc n ≤ length (a .pending .dues) = omega (tests, h .numbers, h .duePlaces .0) in
           let s = pop-sum n (a .pending .amounts) ls (rw z at (h .sums .1)) in
           let f = rw z at (h .sums .0) in
-          let t = pop-times lo (dueEnd now up p (a .server)) n (a .pending .dues) lt (rw z at (h .times)) in
-          let d : getD (a .pending .dues) 0 0 ≡ now = omega (arith, due) in
           record {
             numbers = omega (tests, h .numbers);
             sums = rw (m, pop-part n (a .pending .amounts) ls) (omega (tests, f, s .0), s .2);
-            times = rw (m, pop-part n (a .pending .dues) lt) (rw d at (t .1));
+            times = rw (m, pop-part n (a .pending .dues) lt) (pop-times lo (dueEnd now up p (a .server)) n (a .pending .dues) lt (rw z at (h .times)));
             duePlaces = rw m (pop-places n (a .pending .dues) lt (rw z at (h .duePlaces)));
             amountPlaces = rw m (pop-places n (a .pending .amounts) ls (rw z at (h .amountPlaces)));
           }
@@ -353,47 +351,55 @@ module _ (start now lo : ℕ) (up : Bool) (p : Parameters) (a : Account) (h : Ac
           let s = pop-sum n (a .pending .amounts) ls (rw z at (h .sums .1)) in
           upper-yes p (firstBack p a) (omega (arith, s .1)) (omega (tests, h .numbers))
 
--- in a sound account no two dues fall on one instant
-pub none-more : (start now lo : ℕ) (up : Bool) (p : Parameters) (a : Account) → AccountSound start now lo up p a → now ≤ lo + 1
-    → firstIsDue now (a .pending) ≡ true → firstIsDue now (withoutFirst (a .pending)) ≡ false
-none-more start now lo up p a h l e =
-    let b = back-sound start now lo up p a h e l in
-    later (a .pending .count - 1) (shifted (a .pending .dues)) (omega (tests, b .numbers, b .duePlaces .0)) (b .times)
+-- however many are due, they come back one by one, and then dues are after now
+pub all-back-sound : (k start now lo : ℕ) (up : Bool) (p : Parameters) (a : Account) → a .pending .count ≤ k → AccountSound start now lo up p a
+    → AccountSound start now now up p (allBack k now p a)
+unfolding allBack
+all-back-sound zero start now lo up p a l h = none-sound start now lo up p a h (simp (le-ltb 0 (a .pending .count) l))
+all-back-sound (suc k) start now lo up p a l h =
+    cond-elim (AccountSound start now now up p) (firstIsDue now (a .pending)) (allBack k now p (firstBack p a)) a
+    (λ e. all-back-sound k start now lo up p (firstBack p a) (omega arith) (back-sound start now lo up p a h e))
+    (λ e. none-sound start now lo up p a h e)
+
+-- a thread that is at its upper priority after the first stays there
+pub all-back-upper : (k start now lo : ℕ) (up : Bool) (p : Parameters) (a : Account) → AccountSound start now lo up p a → 1 ≤ p .budget → isUpper p a ≡ true
+    → isUpper p (allBack k now p a) ≡ true
+unfolding allBack
+all-back-upper zero start now lo up p a h b f = f
+all-back-upper (suc k) start now lo up p a h b f =
+    cond-elim (λ (x : Account). isUpper p x ≡ true) (firstIsDue now (a .pending)) (allBack k now p (firstBack p a)) a
+    (λ e. all-back-upper k start now lo up p (firstBack p a) (back-sound start now lo up p a h e) b (back-upper start now lo up p a h e b))
+    (λ e. f)
+
+-- what a return leaves, and where it sends the thread; dues are after lo then
+pub data Returned (start now lo : ℕ) (blocked : Bool) (p : Parameters) (a : Account) (o : Outcome) : Type 0 where
+  stays : o .place ≡ Stays → AccountSound start now lo (runsUpper blocked p a) p (o .account) → runsUpper blocked p (o .account) ≡ runsUpper blocked p a
+      → Returned start now lo blocked p a o
+  raised : o .place ≡ Upper → blocked ≡ false → isUpper p a ≡ false → AccountSound start now lo true p (o .account) → isUpper p (o .account) ≡ true
+      → Returned start now lo blocked p a o
+
+pub return-sound : (start now lo : ℕ) (blocked : Bool) (p : Parameters) (a : Account) → AccountSound start now lo (runsUpper blocked p a) p a
+    → start ≤ now → 1 ≤ p .budget → Returned start now now blocked p a (returning now blocked p a)
+return-sound start now lo blocked p a h st b = go (firstIsDue now (a .pending)) refl blocked h (isUpper p a) refl
   where
-    later : (n : ℕ) (ds : List ℕ) → n ≤ length ds → All (dueTests now (dueEnd now up p (firstBack p a .server)) (take n ds))
-        → (ltb 0 n && leb (getD ds 0 0) now) ≡ false
-    later zero ds g t = refl
-    later (suc n) [] g t = absurd (omega arith)
-    later (suc n) (d ∷ ds) g t = simp (lt-ltb 0 (suc n) (omega arith), lt-leb d now (omega (tests, t .0)))
+    back : (up : Bool) → AccountSound start now lo up p a → AccountSound start now now up p (allBack (a .pending .count) now p a)
+    back up h = all-back-sound (a .pending .count) start now lo up p a (omega arith) h
 
--- so one replenishment is all that comes back
-pub back-once : (start now lo : ℕ) (up : Bool) (p : Parameters) (a : Account) → AccountSound start now lo up p a → now ≤ lo + 1
-    → firstIsDue now (a .pending) ≡ true → allBack (a .pending .count) now p a ≡ firstBack p a
-back-once start now lo up p a h l e =
-    sym (back-one now p a e) ∙ back-done now p (firstBack p a) (firstBack p a .pending .count) (none-more start now lo up p a h l e)
+    up-after : (up : Bool) → AccountSound start now lo up p a → firstIsDue now (a .pending) ≡ true
+        → isUpper p (allBack (a .pending .count) now p a) ≡ true
+    up-after up h e =
+        rw (sym (back-one now p a e))
+        (all-back-upper (firstBack p a .pending .count) start now lo up p (firstBack p a) (back-sound start now lo up p a h e) b
+        (back-upper start now lo up p a h e b))
 
--- what the return of what is due leaves, and where it sends the thread
-pub data Returned (start now : ℕ) (blocked : Bool) (p : Parameters) (a : Account) (o : Outcome) : Type 0 where
-  stays : o .place ≡ Stays → AccountSound start now now (runsUpper blocked p a) p (o .account) → runsUpper blocked p (o .account) ≡ runsUpper blocked p a
-      → Returned start now blocked p a o
-  raised : o .place ≡ Upper → blocked ≡ false → isUpper p a ≡ false → AccountSound start now now true p (o .account) → isUpper p (o .account) ≡ true
-      → Returned start now blocked p a o
-
-pub return-sound : (start now lo : ℕ) (blocked : Bool) (p : Parameters) (a : Account) → AccountSound start now lo (runsUpper blocked p a) p a → now ≤ lo + 1
-    → start ≤ now → 1 ≤ p .budget → Returned start now blocked p a (returning now blocked p a)
-return-sound start now lo blocked p a h l st b = go (firstIsDue now (a .pending)) refl blocked h (isUpper p a) refl
-  where
     go : (d : Bool) → firstIsDue now (a .pending) ≡ d → (blocked : Bool) → AccountSound start now lo (runsUpper blocked p a) p a → (u : Bool) → isUpper p a ≡ u
-        → Returned start now blocked p a (returning now blocked p a)
+        → Returned start now now blocked p a (returning now blocked p a)
     go false e blocked h u f =
         rw (return-none now p a blocked e) (stays refl (none-sound start now lo (runsUpper blocked p a) p a h e) refl)
-    go true e true h u f =
-        rw (return-blocked now p a true e refl, back-once start now lo false p a h l e)
-        (stays refl (back-sound start now lo false p a h e l) refl)
+    go true e true h u f = rw (return-blocked now p a true e refl) (stays refl (back false h) refl)
     go true e false h true f =
-        rw (return-upper now p a false e refl f, back-once start now lo (isUpper p a) p a h l e)
-        (stays refl (back-sound start now lo (isUpper p a) p a h e l) (back-upper start now lo (isUpper p a) p a h e b ∙ sym f))
+        rw (return-upper now p a false e refl f) (stays refl (back (isUpper p a) h) (up-after (isUpper p a) h e ∙ sym f))
     go true e false h false f =
-        rw (return-low now p a false e refl f, back-once start now lo (isUpper p a) p a h l e)
-        (raised refl refl f (activate-sound start now now p (firstBack p a) (rw f at (back-sound start now lo (isUpper p a) p a h e l)) st)
-        (back-upper start now lo (isUpper p a) p a h e b))
+        rw (return-low now p a false e refl f)
+        (raised refl refl f (activate-sound start now now p (allBack (a .pending .count) now p a) (rw f at (back (isUpper p a) h)) st)
+        (up-after (isUpper p a) h e))

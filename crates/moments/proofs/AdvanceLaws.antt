@@ -7,13 +7,14 @@ use lib.ListN.{getD, set}
 use lib.Seq.{set-set}
 use lib.Dec.{eqb}
 use native.Mathlib.Omega.{arith}
-use borrow.Author.Tests.{eqb-true, eqb-false, lt-ltb, le-leb}
+use borrow.Author.Tests.{eqb-true, eqb-false}
 use Rattle.records.proofs.TestLaws.{tests, cond-true, cond-false}
 use Rattle.account.specs.declared.Pending.{Pending}
 use Rattle.account.specs.declared.Outcome.{Outcome}
 use Rattle.account.specs.declared.Effect.{Effect}
-use Rattle.account.specs.Rules.{withEntry, withAdded, withoutFirst, outcome, limitReached, firstIsDue, returning, limitEffect, returnEffect}
-use Rattle.account.proofs.EffectLaws.{OneDue, limit-amount, limit-is, return-is}
+use Rattle.account.specs.Rules.{withEntry, withAdded, withoutFirst, outcome, limitReached, limitEffect, returnEffect}
+use Rattle.account.proofs.EffectLaws.{limit-amount, limit-is}
+use Rattle.account.proofs.ReturnLaws.{returned-first-is}
 use Rattle.ready.specs.Lists.{moved}
 use Rattle.ready.specs.Word.{occupancy}
 use Rattle.ready.specs.Rules.{Movable}
@@ -21,19 +22,20 @@ use Rattle.passing.specs.Time.{dueBy}
 use Rattle.passing.proofs.TimeLaws.{due-true, due-false}
 use Rattle.state.specs.declared.Thread.{Thread}
 use Rattle.state.specs.declared.State.{State}
-use Rattle.rows.specs.Rows.{rowAt, withRow}
+use Rattle.rows.specs.Rows.{withRow}
 use Rattle.state.specs.State.{isBlocked, threadAt, pendingAt, accountAt, withServer}
 use Rattle.rows.proofs.RowLaws.{row-length}
 use Rattle.ticks.specs.declared.Due.{Due}
 use Rattle.ticks.specs.Running.{level, head, ran, charge, limit, nextDue, next}
 use Rattle.moments.specs.Changes.{withLeft, sentTo, countAfter, rowAfter, withOutcome}
 use Rattle.moments.specs.Moments.{quantumEnded, limits, passed}
+use Rattle.moments.proofs.FirstLaws.{backFirst}
 use Rattle.moments.proofs.DueLaws.{found, row-first, earlier-left}
 use Rattle.moments.proofs.InsertLaws.{afterLimit, after-limit-is, limit-entries}
 use Rattle.moments.proofs.ChargeLaws.{limit-later}
-use Rattle.moments.proofs.TurnLaws.{firstOf, first-later, Going, weight, turn-rest, turn-limit, due-some, not-past, charged-going, due-now, turn-due}
+use Rattle.moments.proofs.TurnLaws.{firstOf, first-later, Going, weight, turn-rest, turn-limit, due-some, not-past, charged-going, turn-due}
 use Rattle.moments.proofs.SeenLaws.{Seen, seen-head, seen-at, seen-small, seen-limit, seen-next, charge-fits, charge-place}
-use Rattle.moments.proofs.StepLaws.{Sendable, limit-not-upper, limit-runs, limit-thread, quantum-movable, quantum-is, limited-present, limited-is, limited-requires, limited-sendable, due-sendable, due-is, due-one}
+use Rattle.moments.proofs.StepLaws.{Sendable, limit-not-upper, limit-runs, limit-thread, quantum-movable, quantum-is, limited-present, limited-is, limited-requires, limited-sendable, due-sendable}
 
 -- ticks charged in place: the time, the idle time, and thread i
 abbrev pub withTicks : ℕ → ℕ → ℕ → Thread → State → State
@@ -435,33 +437,14 @@ module _ (r : Turn) where
         goes : Going s₀ t c
         goes = charged-going s₀ s t g (some b) (by b) top (unlimited q)
 
-        is-due : firstIsDue (c .now) (pendingAt c (firstOf s .thread)) ≡ true
-        is-due =
-            rw (lt-ltb 0 (getD (s .counts) (firstOf s .thread) 0) (here .1))
-            (le-leb (getD (rowAt (firstOf s .thread) (s .dues)) 0 0) (s .now + (next s - s .now))
-            (omega (arith, row-first (firstOf s .thread) (s .dues), here .2, due-now s₀ s t g (some b) (by b) top (unlimited q))))
-
-        -- thread n's first entry is due, and no other of its entries
-        abbrev One : State → ℕ → Type 0
-        One y n = (0 < getD (y .counts) n 0) × (firstIsDue (y .now) (pendingAt y n) ≡ true) × (firstIsDue (y .now) (withoutFirst (pendingAt y n)) ≡ false)
-
-        one : One u j
-        one =
-            subst⁻¹ (λ (y : State). One y j) charged-is
-            (subst⁻¹ (One c) (j-due q)
-            (here .1, is-due, due-one (λ i. c .now - 1) c (goes .mid) (firstOf s .thread) (first-small q) (here .1) is-due (omega arith)))
-
         pub some-pending : 0 < getD (s .counts) j 0
-        some-pending = one .0
-
-        one-due : OneDue m (getD (s .counts) j 0) (getD (s .amounts) (j * 8) 0) (pendingAt u j)
-        one-due = record { counted = refl; first = row-first j (s .amounts); due = one .1; others = one .2 }
+        some-pending = subst⁻¹ (λ (n : ℕ). 0 < getD (s .counts) n 0) (j-due q) (here .1)
 
       -- the rule, on the state as it is charged
       abbrev rule : State → ℕ → Outcome
       rule y n =
           cond (eqb m l) (limitReached (y .now) false (threadAt y n .parameters) (accountAt y n))
-          (returning (y .now) (isBlocked (threadAt y n)) (threadAt y n .parameters) (accountAt y n))
+          (backFirst n y)
 
       on-charged : Acted r c j (rule c j)
       on-charged = go (eqb m l) refl
@@ -482,20 +465,19 @@ module _ (r : Turn) where
               }))
           go false q =
               let e = unlimited q in
-              let is = due-is (λ i. c .now - 1) c (goes q .mid) (firstOf s .thread) (first-small q) (here q .1) (is-due q) in
               subst⁻¹ (λ (n : ℕ). Acted r c n (rule c n)) (j-due q)
               (subst⁻¹ (Acted r c (firstOf s .thread)) (cond-false (eqb m l) _ _ q)
               (record {
                 sendable = due-sendable (λ i. c .now - 1) c (goes q .mid) (firstOf s .thread) (first-small q) (here q .1);
-                going = subst⁻¹ (Going s₀ t) is (turn-due s₀ s t g (some b) (by b) top e .0);
-                falls = subst⁻¹ (λ (y : State). weight t y < weight t s) is (turn-due s₀ s t g (some b) (by b) top e .1);
+                going = turn-due s₀ s t g (some b) (by b) top e .0;
+                falls = turn-due s₀ s t g (some b) (by b) top e .1;
               }))
 
       -- and on the state in place
       abbrev pub ruled : Bool → Outcome
       ruled a =
           cond a (limitReached m false (threadAt u j .parameters) (accountAt u j))
-          (returning m (isBlocked (threadAt u j)) (threadAt u j .parameters) (accountAt u j))
+          (backFirst j u)
 
       pub acts : (o : Outcome) → ruled (eqb m l) ≡ o → Acted r u j o
       acts o f = subst (Acted r u j) f (subst⁻¹ (λ (y : State). Acted r y j (rule y j)) charged-is on-charged)
@@ -505,6 +487,9 @@ module _ (r : Turn) where
       effectBy a =
           cond a (limitEffect m (threadAt u j .parameters) (threadAt u j .server))
           (returnEffect m (isBlocked (threadAt u j)) (threadAt u j .parameters) (getD (s .counts) j 0) (getD (s .amounts) (j * 8) 0) (threadAt u j .server))
+
+      abbrev backBy : ℕ → Effect
+      backBy x = returnEffect m (isBlocked (threadAt u j)) (threadAt u j .parameters) (getD (s .counts) j 0) x (threadAt u j .server)
 
       abbrev pub leaves : Bool → Effect → Outcome
       leaves a e = outcome (record { server = e .server; pending = entriesAfter a (e .due) (e .amount) (pendingAt u j) }) (e .place)
@@ -517,7 +502,8 @@ module _ (r : Turn) where
           ∙ ap (leaves true) (sym h)
       rule-leaves false f e h =
           ap ruled (sym f)
-          ∙ return-is m (getD (s .counts) j 0) (getD (s .amounts) (j * 8) 0) (isBlocked (threadAt u j)) (threadAt u j .parameters) (threadAt u j .server) (pendingAt u j) (one-due (sym f))
+          ∙ returned-first-is m (isBlocked (threadAt u j)) (threadAt u j .parameters) (threadAt u j .server) (pendingAt u j)
+          ∙ ap (λ (x : ℕ). outcome (record { server = backBy x .server; pending = withoutFirst (pendingAt u j) }) (backBy x .place)) (row-first j (s .amounts))
           ∙ ap (leaves false) (sym h)
 
       -- a limit that adds an entry has room for it

@@ -1,5 +1,5 @@
 -- What happens at a moment keeps a state sound.
-use Prim.Native.Nat.{ℕ, zero, suc, _+_, _-_, _≤_, _<_}
+use Prim.Native.Nat.{ℕ, zero, suc, _≤_, _<_}
 use mathlib.Core.Bool.{Bool, true, false, cond, _&&_}
 use mathlib.Core.Path.{_≡_, refl, sym, ap, _∙_, subst, subst⁻¹}
 use lib.ListN.{getD}
@@ -14,12 +14,13 @@ use Rattle.account.specs.declared.Pending.{Pending}
 use Rattle.account.specs.declared.Outcome.{Outcome}
 use Rattle.account.specs.declared.Place.{Place}
 use Rattle.account.specs.declared.Place.the-variants.{Stays, Upper}
-use Rattle.account.specs.Account.{atUpper}
-use Rattle.account.specs.Rules.{limitReached, firstIsDue, returning}
+use Rattle.account.specs.Account.{atUpper, isUpper}
+use Rattle.account.specs.Rules.{limitReached, firstIsDue, firstBack, returning}
 use Rattle.account.specs.Sound.{runsUpper}
 use Rattle.account.proofs.RuleLaws.{due-some}
-use Rattle.account.proofs.SoundLaws.{AccountSound, none-sound, Returned, return-sound}
+use Rattle.account.proofs.SoundLaws.{AccountSound, none-sound, back-upper, Returned, return-sound}
 use Rattle.account.proofs.SoundLaws.Returned.{stays, raised}
+use Rattle.account.proofs.ReturnLaws.{returnedFirst, first-sound}
 use Rattle.ready.specs.Lists.{moved}
 use Rattle.ready.specs.Word.{occupancy}
 use Rattle.ready.proofs.Soundness.{ListsSound}
@@ -48,7 +49,7 @@ not-due start now lo b t q (sporadic n z h l v) d =
     sporadic n z h l (none-sound start now lo (runsUpper (isBlocked t) (t .parameters) (record { server = t .server; pending = q })) (t .parameters) (record { server = t .server; pending = q }) v d)
 
 -- thread i's turn: its dues are after now when it is done
-module _ (lo : ℕ → ℕ) (s : State) (h : SoundFrom lo s) (i : ℕ) (l : i < 32) (f : s .now ≤ lo i + 1) where
+module _ (lo : ℕ → ℕ) (s : State) (h : SoundFrom lo s) (i : ℕ) (l : i < 32) where
   skipped : firstIsDue (s .now) (pendingAt s i) ≡ false → SoundFrom (withBound lo i (s .now)) s
   skipped d =
       record {
@@ -72,16 +73,16 @@ module _ (lo : ℕ → ℕ) (s : State) (h : SoundFrom lo s) (i : ℕ) (l : i < 
         ≡ cond (isBlocked (threadAt s i)) 0 (cond (atUpper (threadAt s i .parameters) (y .capacity) c) (threadAt s i .parameters .priority) (threadAt s i .parameters .low))
     place-by c y = ap (λ (k : ℕ). cond (isBlocked (threadAt s i)) 0 k) (by-two (threadAt s i .parameters .policy) _ _ _ z)
 
-    put : (o : Outcome) (x : Place) (b : Bool) → o .place ≡ x
-        → AccountSound (s .header .start) (s .now) (s .now) b (threadAt s i .parameters) (o .account) → runsUpper (isBlocked (threadAt s i)) (threadAt s i .parameters) (o .account) ≡ b
+    put : (x : ℕ) (o : Outcome) (y : Place) (b : Bool) → o .place ≡ y
+        → AccountSound (s .header .start) (s .now) x b (threadAt s i .parameters) (o .account) → runsUpper (isBlocked (threadAt s i)) (threadAt s i .parameters) (o .account) ≡ b
         → ListsSound (withPlace (place s) i (placeOf (withServer (o .account .server) (threadAt s i)) (o .account .pending .count)))
-        (occupancy (sentTo x i (threadAt s i .parameters) (s .lists))) (sentTo x i (threadAt s i .parameters) (s .lists))
-        → SoundFrom (withBound lo i (s .now)) (withOutcome i o s)
-    put o x b p q u m =
-        subst⁻¹ (λ (y : Place). SoundFrom (withBound lo i (s .now)) (withLists (sentTo y i (threadAt s i .parameters) (s .lists)) (withAccount i (threadAt s i) (o .account) s))) p
-        (changed lo s h i l (threadAt s i) (o .account) (s .now) (omega (tests, q .duePlaces .0)) (omega (tests, q .amountPlaces .0))
-        (sporadic n z g a (subst⁻¹ (λ (y : Bool). AccountSound (s .header .start) (s .now) (s .now) y (threadAt s i .parameters) (o .account)) u q))
-        refl (sentTo x i (threadAt s i .parameters) (s .lists)) m)
+        (occupancy (sentTo y i (threadAt s i .parameters) (s .lists))) (sentTo y i (threadAt s i .parameters) (s .lists))
+        → SoundFrom (withBound lo i x) (withOutcome i o s)
+    put x o y b p q u m =
+        subst⁻¹ (λ (y : Place). SoundFrom (withBound lo i x) (withLists (sentTo y i (threadAt s i .parameters) (s .lists)) (withAccount i (threadAt s i) (o .account) s))) p
+        (changed lo s h i l (threadAt s i) (o .account) x (omega (tests, q .duePlaces .0)) (omega (tests, q .amountPlaces .0))
+        (sporadic n z g a (subst⁻¹ (λ (c : Bool). AccountSound (s .header .start) (s .now) x c (threadAt s i .parameters) (o .account)) u q))
+        refl (sentTo y i (threadAt s i .parameters) (s .lists)) m)
 
     -- it stays: its place is what it was
     same-place : (b x y : Bool) (j k : ℕ) → cond b false x ≡ cond b false y → cond b 0 (cond x j k) ≡ cond b 0 (cond y j k)
@@ -104,10 +105,10 @@ module _ (lo : ℕ → ℕ) (s : State) (h : SoundFrom lo s) (i : ℕ) (l : i < 
             ∙ ap (place s) (sym e)
         go j (no e) = cond-false (eqb j i) _ _ (ne-eqb j i e)
 
-    back : (o : Outcome) → Returned (s .header .start) (s .now) (isBlocked (threadAt s i)) (threadAt s i .parameters) (accountAt s i) o → SoundFrom (withBound lo i (s .now)) (withOutcome i o s)
-    back o (stays p q u) = put o Stays (runsUpper (isBlocked (threadAt s i)) (threadAt s i .parameters) (accountAt s i)) p q u (unmoved o u)
-    back o (raised p w u q r) =
-        put o Upper true p q (cond-false (isBlocked (threadAt s i)) false _ w ∙ r)
+    back : (x : ℕ) (o : Outcome) → Returned (s .header .start) (s .now) x (isBlocked (threadAt s i)) (threadAt s i .parameters) (accountAt s i) o → SoundFrom (withBound lo i x) (withOutcome i o s)
+    back x o (stays p q u) = put x o Stays (runsUpper (isBlocked (threadAt s i)) (threadAt s i .parameters) (accountAt s i)) p q u (unmoved o u)
+    back x o (raised p w u q r) =
+        put x o Upper true p q (cond-false (isBlocked (threadAt s i)) false _ w ∙ r)
         (subst⁻¹ (λ (y : ℕ). ListsSound (withPlace (place s) i y) (occupancy (moved i (threadAt s i .parameters .low) (threadAt s i .parameters .priority) (s .lists)))
         (moved i (threadAt s i .parameters .low) (threadAt s i .parameters .priority) (s .lists)))
         (place-by (o .account .pending .count) (o .account .server) ∙ cond-false (isBlocked (threadAt s i)) 0 _ w ∙ cond-true _ (threadAt s i .parameters .priority) (threadAt s i .parameters .low) r)
@@ -117,8 +118,38 @@ module _ (lo : ℕ → ℕ) (s : State) (h : SoundFrom lo s) (i : ℕ) (l : i < 
 
     returned : SoundFrom (withBound lo i (s .now)) (withOutcome i (returning (s .now) (isBlocked (threadAt s i)) (threadAt s i .parameters) (accountAt s i)) s)
     returned =
-        back (returning (s .now) (isBlocked (threadAt s i)) (threadAt s i .parameters) (accountAt s i))
-        (return-sound (s .header .start) (s .now) (lo i) (isBlocked (threadAt s i)) (threadAt s i .parameters) (accountAt s i) v f (omega (tests, h .sizes)) (omega (tests, g)))
+        back (s .now) (returning (s .now) (isBlocked (threadAt s i)) (threadAt s i .parameters) (accountAt s i))
+        (return-sound (s .header .start) (s .now) (lo i) (isBlocked (threadAt s i)) (threadAt s i .parameters) (accountAt s i) v (omega (tests, h .sizes)) (omega (tests, g)))
+
+    -- the first alone: dues are no earlier than before
+    returned-first : firstIsDue (s .now) (pendingAt s i) ≡ true
+        → SoundFrom (withBound lo i (lo i)) (withOutcome i (returnedFirst (s .now) (isBlocked (threadAt s i)) (threadAt s i .parameters) (accountAt s i)) s)
+    returned-first e =
+        back (lo i) (returnedFirst (s .now) (isBlocked (threadAt s i)) (threadAt s i .parameters) (accountAt s i))
+        (first-sound (s .header .start) (s .now) (lo i) (isBlocked (threadAt s i)) (threadAt s i .parameters) (accountAt s i) v e (omega (tests, h .sizes)) (omega (tests, g)))
+
+  -- then a thread has capacity and room
+  pub first-back-upper : firstIsDue (s .now) (pendingAt s i) ≡ true → isUpper (threadAt s i .parameters) (firstBack (threadAt s i .parameters) (accountAt s i)) ≡ true
+  first-back-upper e = go (h .each i l)
+    where
+      go : ThreadSound (s .header .start) (s .now) (lo i) (ltb i (s .header .n)) (threadAt s i) (pendingAt s i)
+          → isUpper (threadAt s i .parameters) (firstBack (threadAt s i .parameters) (accountAt s i)) ≡ true
+      go (absent n t q) = absurd (omega (arith, due-some (s .now) (threadAt s i .parameters) (accountAt s i) e, ap (λ (q : Pending). q .count) q))
+      go (fifo n z g a v q) = absurd (omega (arith, due-some (s .now) (threadAt s i .parameters) (accountAt s i) e, ap (λ (q : Pending). q .count) q))
+      go (rr n z g a v q) = absurd (omega (arith, due-some (s .now) (threadAt s i .parameters) (accountAt s i) e, ap (λ (q : Pending). q .count) q))
+      go (sporadic n z g a v) = back-upper (s .header .start) (s .now) (lo i) _ (threadAt s i .parameters) (accountAt s i) v e (omega (tests, g))
+
+  -- the first that is due comes back
+  pub first-back-sound : firstIsDue (s .now) (pendingAt s i) ≡ true
+      → SoundFrom (withBound lo i (lo i)) (withOutcome i (returnedFirst (s .now) (isBlocked (threadAt s i)) (threadAt s i .parameters) (accountAt s i)) s)
+  first-back-sound e = go (h .each i l)
+    where
+      go : ThreadSound (s .header .start) (s .now) (lo i) (ltb i (s .header .n)) (threadAt s i) (pendingAt s i)
+          → SoundFrom (withBound lo i (lo i)) (withOutcome i (returnedFirst (s .now) (isBlocked (threadAt s i)) (threadAt s i .parameters) (accountAt s i)) s)
+      go (absent n t q) = absurd (omega (arith, due-some (s .now) (threadAt s i .parameters) (accountAt s i) e, ap (λ (q : Pending). q .count) q))
+      go (fifo n z g a v q) = absurd (omega (arith, due-some (s .now) (threadAt s i .parameters) (accountAt s i) e, ap (λ (q : Pending). q .count) q))
+      go (rr n z g a v q) = absurd (omega (arith, due-some (s .now) (threadAt s i .parameters) (accountAt s i) e, ap (λ (q : Pending). q .count) q))
+      go (sporadic n z g a v) = returned-first n z g a v e
 
   pub replenish-sound : SoundFrom (withBound lo i (s .now)) (replenish i s)
   unfolding replenish
@@ -175,18 +206,15 @@ header-fire s = keeps-fire (λ (u : State). u .header) (λ i o u. refl) (λ p i 
 abbrev pub turns : ℕ → ℕ → (ℕ → ℕ) → ℕ → ℕ
 turns now n lo i = cond (ltb i n) now (lo i)
 
-pub below-sound : (lo : ℕ → ℕ) (n : ℕ) (s : State) → n ≤ 32 → SoundFrom lo s → ((i : ℕ) → s .now ≤ lo i + 1) → SoundFrom (turns (s .now) n lo) (replenishBelow n s)
+pub below-sound : (lo : ℕ → ℕ) (n : ℕ) (s : State) → n ≤ 32 → SoundFrom lo s → SoundFrom (turns (s .now) n lo) (replenishBelow n s)
 unfolding replenishBelow
-below-sound lo zero s l h f = bounds-same lo (turns (s .now) 0 lo) s h (λ i m. cond-false (ltb i 0) _ _ (le-ltb i 0 (omega arith)))
-below-sound lo (suc n) s l h f =
+below-sound lo zero s l h = bounds-same lo (turns (s .now) 0 lo) s h (λ i m. cond-false (ltb i 0) _ _ (le-ltb i 0 (omega arith)))
+below-sound lo (suc n) s l h =
     let u = replenishBelow n s in
     let e = now-below n s in
     bounds-same (withBound (turns (s .now) n lo) n (u .now)) (turns (s .now) (suc n) lo) (replenish n u)
-    (replenish-sound (turns (s .now) n lo) u (below-sound lo n s (omega arith) h f) n (omega arith) (bound e)) (λ i m. go i (ℕ-discrete i n) e)
+    (replenish-sound (turns (s .now) n lo) u (below-sound lo n s (omega arith) h) n (omega arith)) (λ i m. go i (ℕ-discrete i n) e)
   where
-    bound : replenishBelow n s .now ≡ s .now → replenishBelow n s .now ≤ turns (s .now) n lo n + 1
-    bound e = rw (le-ltb n n (omega arith)) (omega (arith, f n))
-
     go : (i : ℕ) → Dec (i ≡ n) → replenishBelow n s .now ≡ s .now → turns (s .now) (suc n) lo i ≡ withBound (turns (s .now) n lo) n (replenishBelow n s .now) i
     go i (yes c) e = cond-true (ltb i (suc n)) _ _ (lt-ltb i (suc n) (omega arith)) ∙ sym e ∙ sym (cond-true (eqb i n) _ _ (eq-eqb i n c))
     go i (no c) e = ap (λ (b : Bool). cond b (s .now) (lo i)) (same (ltb i n) refl) ∙ sym (cond-false (eqb i n) _ _ (ne-eqb i n c))
@@ -213,12 +241,12 @@ settled lo s h = record { sizes = h .sizes; each = λ i l. go i (ltb i (s .heade
         subst (λ (k : ℕ). ThreadSound (s .header .start) (s .now) k (ltb i (s .header .n)) (threadAt s i) (pendingAt s i)) (cond-true (ltb i (s .header .n)) (s .now) (lo i) q) x
     go i false q x = from i (turns (s .now) (s .header .n) lo i) q x
 
--- replenishing makes a state sound whose dues are at or after now
-pub settle-sound : (lo : ℕ → ℕ) (s : State) → SoundFrom lo s → ((i : ℕ) → s .now ≤ lo i + 1) → Sound (replenishBelow (s .header .n) s)
-settle-sound lo s h f =
+-- replenishing makes a state sound, whatever is due
+pub settle-sound : (lo : ℕ → ℕ) (s : State) → SoundFrom lo s → Sound (replenishBelow (s .header .n) s)
+settle-sound lo s h =
     let n = s .header .n in
     let u = replenishBelow n s in
     settled lo u
     (subst⁻¹ (λ (x : ℕ). SoundFrom (turns x (u .header .n) lo) u) (now-below n s)
     (subst⁻¹ (λ (x : Header). SoundFrom (turns (s .now) (x .n) lo) u) (keeps-below (λ (v : State). v .header) (λ i o v. refl) (λ p i v. refl) n s)
-    (below-sound lo n s (omega (tests, h .sizes)) h f)))
+    (below-sound lo n s (omega (tests, h .sizes)) h)))

@@ -202,7 +202,7 @@ module _ (counts dues : List ℕ) (n k : ℕ) (m : n ≤ 32) (l : k < 32) (lc : 
 
 -- ---- what a limit does to the pending entries: none more, or one behind those there
 
-limit-pending : (P : Pending → Type 0) (now : ℕ) (p : Parameters) (a : Account) → P (a .pending) → ((due amount : ℕ) → P (withEntry due amount (a .pending)))
+pub limit-pending : (P : Pending → Type 0) (now : ℕ) (p : Parameters) (a : Account) → P (a .pending) → ((due amount : ℕ) → P (withEntry due amount (a .pending)))
     → P (limitReached now false p a .account .pending)
 unfolding limitReached scheduled
 limit-pending P now p a x y =

@@ -1,5 +1,6 @@
 -- Laws of the passing of time over the state.
 pub mod ChangeLaws
+pub mod FirstLaws
 pub mod DueLaws
 pub mod InsertLaws
 pub mod ChargeLaws

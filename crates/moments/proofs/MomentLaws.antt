@@ -58,7 +58,7 @@ unfolding before fire
 fired s u h e =
     let n = keeps-limits (λ (v : State). v .now) (λ i o v. refl) (λ p i v. refl) u in
     subst (λ (x : Header). Sound (replenishBelow (x .n) (limits u))) (keeps-limits (λ (v : State). v .header) (λ i o v. refl) (λ p i v. refl) u)
-    (settle-sound (λ i. next s - 1) (limits u) h (λ i. omega (arith, n)))
+    (settle-sound (λ i. next s - 1) (limits u) h)
 
 module _ (s : State) (h : Sound s) (p : 0 < next s) (top : next s ≤ 1000000000000000) where
   k : ℕ

@@ -18,9 +18,10 @@ use Rattle.account.specs.declared.Outcome.{Outcome}
 use Rattle.account.specs.declared.Place.{Place}
 use Rattle.account.specs.declared.Place.the-variants.{Stays, Low, LowThenUpper, Upper}
 use Rattle.account.specs.Account.{atUpper, isUpper}
-use Rattle.account.specs.Rules.{charged, dueNow, withoutFirst, scheduled, activated, outcome, limitReached, firstIsDue, returning}
+use Rattle.account.specs.Rules.{charged, dueNow, scheduled, activated, outcome, limitReached}
 use Rattle.account.specs.Sound.{runsUpper}
-use Rattle.account.proofs.SoundLaws.{AccountSound, upper-room, none-more}
+use Rattle.account.proofs.SoundLaws.{AccountSound, upper-room}
+use Rattle.account.proofs.ReturnLaws.{returnedFirst}
 use Rattle.ready.specs.Lists.{moved}
 use Rattle.ready.specs.Word.{occupancy}
 use Rattle.ready.specs.Rules.{Movable}
@@ -33,7 +34,8 @@ use Rattle.state.proofs.SoundLaws.ThreadSound.{absent, fifo, rr, sporadic}
 use Rattle.ticks.specs.Running.{level, head, idles, ran, charge, limitOf, limit, next}
 use Rattle.ticks.proofs.RunLaws.{by-zero, by-one, by-two, by-more, limit-rr, limit-upper, limit-lower}
 use Rattle.moments.specs.Changes.{withOutcome}
-use Rattle.moments.specs.Moments.{quantumEnded, limitsOf, limits, replenish}
+use Rattle.moments.specs.Moments.{quantumEnded, limitsOf, limits}
+use Rattle.moments.proofs.FirstLaws.{backFirst}
 use Rattle.moments.proofs.ChargeLaws.{Runs, runs, upper-at, ran-upper}
 
 -- ---- where the account's rules send a thread
@@ -69,13 +71,9 @@ limit-not-upper now p a =
     (outcome (scheduled now p a) Low) (λ e f. then-upper f) (λ e f. low-upper f)
 
 module _ (now : ℕ) (b : Bool) (p : Parameters) (a : Account) where
-  returning-by : (P : Place → Type 0) → P Stays → (b ≡ false → isUpper p a ≡ false → P Upper) → P (returning now b p a .place)
-  unfolding returning
-  returning-by P f g =
-      cond-elim (λ (o : Outcome). P (o .place)) (firstIsDue now (a .pending)) _ _
-      (λ e. cond-elim (λ (o : Outcome). P (o .place)) b _ _ (λ d. f)
-      (λ d. cond-elim (λ (o : Outcome). P (o .place)) (isUpper p a) _ _ (λ c. f) (λ c. g d c)))
-      (λ e. f)
+  first-by : (P : Place → Type 0) → P Stays → (b ≡ false → isUpper p a ≡ false → P Upper) → P (returnedFirst now b p a .place)
+  first-by P f g =
+      cond-elim (λ (o : Outcome). P (o .place)) b _ _ (λ d. f) (λ d. cond-elim (λ (o : Outcome). P (o .place)) (isUpper p a) _ _ (λ c. f) (λ c. g d c))
 
 -- what `send` requires
 pub record Sendable (word i : ℕ) (p : Parameters) (l : List ℕ) (x : Place) : Type 0 where
@@ -239,9 +237,9 @@ module _ (lo : ℕ → ℕ) (s : State) (a : SoundFrom lo s) (p : 0 < next s) (e
 
 module _ (lo : ℕ → ℕ) (s : State) (a : SoundFrom lo s) (j : ℕ) (l : j < 32) (c : 0 < getD (s .counts) j 0) where
   pub due-sendable : Sendable (s .word) j (threadAt s j .parameters) (s .lists)
-      (returning (s .now) (isBlocked (threadAt s j)) (threadAt s j .parameters) (accountAt s j) .place)
+      (backFirst j s .place)
   due-sendable =
-      returning-by (s .now) (isBlocked (threadAt s j)) (threadAt s j .parameters) (accountAt s j) (Sendable (s .word) j (threadAt s j .parameters) (s .lists))
+      first-by (s .now) (isBlocked (threadAt s j)) (threadAt s j .parameters) (accountAt s j) (Sendable (s .word) j (threadAt s j .parameters) (s .lists))
       (record {
         stays = λ q. a .lists .agrees;
         low = λ q. absurd (stays-low q);
@@ -264,18 +262,3 @@ module _ (lo : ℕ → ℕ) (s : State) (a : SoundFrom lo s) (j : ℕ) (l : j < 
       up w u (sporadic n z g b v) =
           movable (place s) (s .word) (s .lists) (a .lists) j l (threadAt s j .parameters .low) (threadAt s j .parameters .priority) (omega (tests, g)) (omega (tests, g))
           (sporadic-place (threadAt s j) (getD (s .counts) j 0) z w ∙ cond-false _ _ _ u) (omega (tests, g)) (omega (tests, g))
-
-  pub due-is : firstIsDue (s .now) (pendingAt s j) ≡ true
-      → withOutcome j (returning (s .now) (isBlocked (threadAt s j)) (threadAt s j .parameters) (accountAt s j)) s ≡ replenish j s
-  unfolding replenish
-  due-is e = sym (cond-true (firstIsDue (s .now) (pendingAt s j)) _ _ e)
-
-  -- it is the only one of its thread
-  pub due-one : firstIsDue (s .now) (pendingAt s j) ≡ true → s .now ≤ lo j + 1 → firstIsDue (s .now) (withoutFirst (pendingAt s j)) ≡ false
-  due-one e f = go (a .each j l)
-    where
-      go : ThreadSound (s .header .start) (s .now) (lo j) (ltb j (s .header .n)) (threadAt s j) (pendingAt s j) → firstIsDue (s .now) (withoutFirst (pendingAt s j)) ≡ false
-      go (absent n t q) = absurd (omega (arith, ap (λ (q : Pending). q .count) q))
-      go (fifo n z g b v q) = absurd (omega (arith, ap (λ (q : Pending). q .count) q))
-      go (rr n z g b v q) = absurd (omega (arith, ap (λ (q : Pending). q .count) q))
-      go (sporadic n z g b v) = none-more (s .header .start) (s .now) (lo j) _ (threadAt s j .parameters) (accountAt s j) v f e

@@ -4,34 +4,41 @@
 use Prim.Native.Nat.{ℕ, zero, suc, _+_, _-_, _*_, _≤_, _<_}
 use mathlib.Core.Bool.{Bool, true, false, cond, _&&_}
 use mathlib.Core.Path.{_≡_, refl, sym, ap, _∙_, subst, subst⁻¹}
-use lib.ListN.{getD, set}
+use mathlib.Core.List.{List, [], _∷_}
+use lib.ListN.{length, drop, getD, set, length-append, length-drop}
 use lib.Seq.{set-getD}
 use lib.Dec.{ltb, leb, eqb}
 use native.Mathlib.Omega.{arith}
 use native.Mathlib.Decide.{ℕ-discrete}
-use borrow.Author.Tests.{eq-eqb, ne-eqb, lt-ltb, le-ltb, le-leb, lt-leb, ltb-true, ltb-false, leb-true}
+use borrow.Author.Tests.{lt-ltb, le-leb, lt-leb, ltb-true, ltb-false}
 use Rattle.records.specs.declared.Header.{Header}
 use Rattle.records.specs.Tests.{byPolicy}
-use Rattle.records.proofs.TestLaws.{tests, cond-true, cond-false}
+use Rattle.records.proofs.TestLaws.{tests, cond-elim, cond-false, policy-elim}
 use Rattle.account.specs.declared.Pending.{Pending}
-use Rattle.account.specs.Rules.{charged, firstIsDue}
+use Rattle.account.specs.Account.{isUpper}
+use Rattle.account.specs.Rules.{charged, shifted, withoutFirst, firstIsDue, firstBack, raised}
+use Rattle.account.specs.Sound.{sum}
 use Rattle.passing.specs.Time.{dueBy}
 use Rattle.passing.proofs.TimeLaws.{due-false, due-yes, advance-rest, advance-due}
 use Rattle.state.specs.declared.Thread.{Thread}
 use Rattle.state.specs.declared.State.{State}
 use Rattle.rows.specs.Rows.{rowAt}
-use Rattle.state.specs.State.{noThread, threadAt, pendingAt}
+use Rattle.state.specs.State.{isBlocked, noThread, threadAt, pendingAt, accountAt}
+use Rattle.rows.proofs.RowLaws.{row-length}
 use Rattle.state.proofs.SoundLaws.{SoundFrom, Sound, state-in}
 use Rattle.ticks.specs.declared.Due.{Due}
 use Rattle.ticks.specs.Running.{level, head, idles, ran, charge, limit, nextDue, next}
 use Rattle.ticks.proofs.EarlierLaws.{earlier-other}
 use Rattle.ticks.proofs.RunLaws.{charged-none}
-use Rattle.moments.specs.Moments.{limits, replenish, replenishBelow, fire, clock, passed}
-use Rattle.moments.proofs.ChangeLaws.{withBound}
+use Rattle.moments.specs.Changes.{withOutcome}
+use Rattle.moments.specs.Moments.{quantumEnded, limitsOf, limits, replenish, replenishBelow, fire, clock, passed}
+use Rattle.moments.proofs.ChangeLaws.{withBound, pending-other}
 use Rattle.moments.proofs.DueLaws.{Found, found, row-first, earlier-right}
 use Rattle.moments.proofs.ChargeLaws.{due-after, wait-thread, next-due, dues-after, limit-later, charged-sound}
 use Rattle.moments.proofs.LimitLaws.{limits-none}
-use Rattle.moments.proofs.FireLaws.{bounds-same, replenish-sound, keeps-replenish, keeps-limits}
+use Rattle.moments.proofs.FireLaws.{bounds-same, first-back-sound, first-back-upper, keeps-limits}
+use Rattle.moments.proofs.FirstLaws.{backFirst, first-then-rest}
+use Rattle.moments.proofs.InsertLaws.{limit-pending}
 use Rattle.moments.proofs.MomentLaws.{before, within-limit, limits-sound, passing}
 
 -- the first due of the state
@@ -91,18 +98,33 @@ below-same m (suc n) s u l e = go (ℕ-discrete m (suc n)) (λ k. below-same m n
 
 -- ---- one replenishment: the first that is due
 
--- how many thread numbers are left from the first thread on that has a replenishment due; 0 where none has
-unfoldable pub ahead : State → ℕ
-ahead s = cond (eqb (firstOf s .thread) 32) 0 (cond (leb (firstOf s .due) (s .now)) (32 - firstOf s .thread) 0)
+-- the sum of numbers with another one at place i
+sum-set : (xs : List ℕ) (i x : ℕ) → i < length xs → sum (set xs i x) + getD xs i 0 ≡ sum xs + x
+sum-set [] i x l = absurd (omega arith)
+sum-set (y ∷ ys) zero x l = omega arith
+sum-set (y ∷ ys) (suc i) x l = omega (arith, sum-set ys i x (omega arith))
 
-pub ahead-most : (s : State) → ahead s ≤ 32
-unfolding ahead
-ahead-most s = go (eqb (firstOf s .thread) 32) (leb (firstOf s .due) (s .now))
-  where
-    go : (a b : Bool) → cond a 0 (cond b (32 - firstOf s .thread) 0) ≤ 32
-    go true b = omega arith
-    go false true = omega arith
-    go false false = omega arith
+sum-most : (xs : List ℕ) (i x : ℕ) → x ≤ getD xs i 0 + 1 → sum (set xs i x) ≤ sum xs + 1
+sum-most [] i x l = omega arith
+sum-most (y ∷ ys) zero x l = omega arith
+sum-most (y ∷ ys) (suc i) x l = omega (arith, sum-most ys i x l)
+
+shifted-length : (xs : List ℕ) → length xs ≡ 8 → length (shifted xs) ≡ 8
+shifted-length xs l = length-append (drop 1 xs) (0 ∷ []) ∙ omega (arith, length-drop 1 xs)
+
+-- at a limit at most one entry is added
+limits-counted : (s : State) → sum (limits s .counts) ≤ sum (s .counts) + 1
+unfolding limits
+limits-counted s =
+    let t = threadAt s (head s) in
+    let P : State → Type 0 = λ u. sum (u .counts) ≤ sum (s .counts) + 1 in
+    cond-elim P (idles s) s (limitsOf (level s) (head s) t s) (λ e. omega arith)
+    (λ e. policy-elim P (t .parameters .policy) _ _ _ (λ c. omega arith)
+    (λ c. cond-elim P (eqb (t .left) 0) (quantumEnded (level s) (head s) t s) s (λ d. omega arith) (λ d. omega arith))
+    (λ c. cond-elim P (eqb (level s) (t .parameters .priority) && eqb (t .server .capacity) 0) _ s
+    (λ d. sum-most (s .counts) (head s) _
+    (limit-pending (λ (q : Pending). q .count ≤ getD (s .counts) (head s) 0 + 1) (s .now) (t .parameters) (accountAt s (head s)) (omega arith) (λ due amount. omega arith)))
+    (λ d. omega arith)))
 
 module _ (s : State) (h : Mid s) (d : firstOf s .thread ≡ 32 → ⊥) (e : firstOf s .due ≤ s .now) where
   f : Found (s .counts) (s .dues) (s .header .n) (firstOf s)
@@ -119,102 +141,73 @@ module _ (s : State) (h : Mid s) (d : firstOf s .thread ≡ 32 → ⊥) (e : fir
       let r = f .some d in
       omega (arith, r .2, row-first (firstOf s .thread) (s .dues), first-later (λ i. s .now - 1) s h (firstOf s .thread) first-small (r .1))
 
-  -- threads below the one that is due have nothing due
-  lo : ℕ → ℕ
-  lo j = cond (ltb j (firstOf s .thread)) (s .now) (s .now - 1)
+  first-due : firstIsDue (s .now) (pendingAt s (firstOf s .thread)) ≡ true
+  first-due =
+      let r = f .some d in
+      rw (lt-ltb 0 (getD (s .counts) (firstOf s .thread) 0) (r .1))
+      (le-leb (getD (rowAt (firstOf s .thread) (s .dues)) 0 0) (s .now) (omega (arith, r .2, row-first (firstOf s .thread) (s .dues))))
 
-  lower : SoundFrom lo s
-  unfolding lo
-  lower = bounds (λ i. s .now - 1) lo s h (λ j l c. go j l c (ltb j (firstOf s .thread)) refl)
+  -- the state when the first that is due has come back
+  abbrev backed : State
+  backed = withOutcome (firstOf s .thread) (backFirst (firstOf s .thread) s) s
+
+  entries : backFirst (firstOf s .thread) s .account .pending ≡ withoutFirst (pendingAt s (firstOf s .thread))
+  entries = go (isBlocked (threadAt s (firstOf s .thread))) (isUpper (threadAt s (firstOf s .thread) .parameters) (accountAt s (firstOf s .thread)))
     where
-      go : (j : ℕ) → j < 32 → 0 < getD (s .counts) j 0 → (b : Bool) → ltb j (firstOf s .thread) ≡ b → cond b (s .now) (s .now - 1) < getD (rowAt j (s .dues)) 0 0
-      go j l c true q = omega (arith, f .lowest d j (ltb-true j (firstOf s .thread) q) c, first-now, row-first j (s .dues))
-      go j l c false q = first-later (λ i. s .now - 1) s h j l c
+      go : (b up : Bool) → raised (s .now) b up (firstBack (threadAt s (firstOf s .thread) .parameters) (accountAt s (firstOf s .thread))) .account .pending
+          ≡ withoutFirst (pendingAt s (firstOf s .thread))
+      go true up = refl
+      go false true = refl
+      go false false = refl
 
-  after : SoundFrom (withBound lo (firstOf s .thread) (s .now)) (replenish (firstOf s .thread) s)
-  unfolding lo
-  after = replenish-sound lo s lower (firstOf s .thread) first-small (rw (le-ltb (firstOf s .thread) (firstOf s .thread) (omega arith)) (omega arith))
+  dues-eight : length (backFirst (firstOf s .thread) s .account .pending .dues) ≡ 8
+  dues-eight =
+      ap (λ (q : Pending). length (q .dues)) entries ∙ shifted-length (rowAt (firstOf s .thread) (s .dues)) (row-length (firstOf s .thread) (s .dues) first-small (omega (tests, h .sizes)))
 
-  now-kept : replenish (firstOf s .thread) s .now ≡ s .now
-  now-kept = keeps-replenish (λ (u : State). u .now) (λ i o u. refl) (λ p i u. refl) (firstOf s .thread) s
+  amounts-eight : length (backFirst (firstOf s .thread) s .account .pending .amounts) ≡ 8
+  amounts-eight =
+      ap (λ (q : Pending). length (q .amounts)) entries
+      ∙ shifted-length (rowAt (firstOf s .thread) (s .amounts)) (row-length (firstOf s .thread) (s .amounts) first-small (omega (tests, h .sizes)))
 
-  header-kept : replenish (firstOf s .thread) s .header ≡ s .header
-  header-kept = keeps-replenish (λ (u : State). u .header) (λ i o u. refl) (λ p i u. refl) (firstOf s .thread) s
-
-  bound-some : (j : ℕ) → s .now - 1 ≤ withBound lo (firstOf s .thread) (s .now) j
-  unfolding lo
-  bound-some j = go (eqb j (firstOf s .thread)) (ltb j (firstOf s .thread))
+  pub backed-mid : Mid backed
+  backed-mid =
+      bounds-same (withBound (λ i. s .now - 1) (firstOf s .thread) (s .now - 1)) (λ i. s .now - 1) backed
+      (first-back-sound (λ i. s .now - 1) s h (firstOf s .thread) first-small first-due) (λ i m. go (eqb i (firstOf s .thread)))
     where
-      go : (a b : Bool) → s .now - 1 ≤ cond a (s .now) (cond b (s .now) (s .now - 1))
-      go true b = omega arith
-      go false true = omega arith
-      go false false = omega arith
+      go : (b : Bool) → s .now - 1 ≡ cond b (s .now - 1) (s .now - 1)
+      go true = refl
+      go false = refl
 
-  bound-now : (j : ℕ) → j ≤ firstOf s .thread → withBound lo (firstOf s .thread) (s .now) j ≡ s .now
-  unfolding lo
-  bound-now j l = go (ℕ-discrete j (firstOf s .thread))
-    where
-      go : Dec (j ≡ firstOf s .thread) → cond (eqb j (firstOf s .thread)) (s .now) (cond (ltb j (firstOf s .thread)) (s .now) (s .now - 1)) ≡ s .now
-      go (yes q) = cond-true (eqb j (firstOf s .thread)) _ _ (eq-eqb j (firstOf s .thread) q)
-      go (no q) = cond-false (eqb j (firstOf s .thread)) _ _ (ne-eqb j (firstOf s .thread) q) ∙ cond-true (ltb j (firstOf s .thread)) _ _ (lt-ltb j (firstOf s .thread) (omega (arith, q)))
-
-  -- and after its turn neither has that thread
-  passed-by : (j : ℕ) → j ≤ firstOf s .thread → 0 < getD (replenish (firstOf s .thread) s .counts) j 0 → s .now < getD (rowAt j (replenish (firstOf s .thread) s .dues)) 0 0
-  passed-by j l c =
-      omega (arith, bound-now j l, first-later (withBound lo (firstOf s .thread) (s .now)) (replenish (firstOf s .thread) s) after j (omega (arith, first-small)) c)
-
-  pub replenished-mid : Mid (replenish (firstOf s .thread) s)
-  replenished-mid =
-      bounds (withBound lo (firstOf s .thread) (s .now)) (λ i. replenish (firstOf s .thread) s .now - 1) (replenish (firstOf s .thread) s) after
-      (λ j l c. omega (arith, now-kept, bound-some j, first-later (withBound lo (firstOf s .thread) (s .now)) (replenish (firstOf s .thread) s) after j l c))
-
-  pub replenished-same : replenishBelow (replenish (firstOf s .thread) s .header .n) (replenish (firstOf s .thread) s) ≡ replenishBelow (s .header .n) s
-  replenished-same =
-      ap (λ (x : Header). replenishBelow (x .n) (replenish (firstOf s .thread) s)) header-kept
-      ∙ below-same (suc (firstOf s .thread)) (s .header .n) (replenish (firstOf s .thread) s) s (omega (arith, first-below))
-      (below-none (suc (firstOf s .thread)) (replenish (firstOf s .thread) s) none
+  -- threads below it have nothing due, and what is left comes back as before
+  pub backed-same : replenishBelow (s .header .n) backed ≡ replenishBelow (s .header .n) s
+  backed-same =
+      below-same (suc (firstOf s .thread)) (s .header .n) backed s (omega (arith, first-below))
+      (below-suc (firstOf s .thread) backed
+      ∙ ap (replenish (firstOf s .thread)) (below-none (firstOf s .thread) backed still)
+      ∙ first-then-rest s (h .sizes) (firstOf s .thread) first-small first-due (first-back-upper (λ i. s .now - 1) s h (firstOf s .thread) first-small first-due) dues-eight amounts-eight
       ∙ sym (below-suc (firstOf s .thread) s ∙ ap (replenish (firstOf s .thread)) (below-none (firstOf s .thread) s below)))
     where
-      none : (j : ℕ) → j < suc (firstOf s .thread) → firstIsDue (replenish (firstOf s .thread) s .now) (pendingAt (replenish (firstOf s .thread) s) j) ≡ false
-      none j l = nothing-due (replenish (firstOf s .thread) s .now) (pendingAt (replenish (firstOf s .thread) s) j) (λ c. omega (arith, now-kept, passed-by j (omega arith) c))
-
       below : (j : ℕ) → j < firstOf s .thread → firstIsDue (s .now) (pendingAt s j) ≡ false
       below j l = nothing-due (s .now) (pendingAt s j) (λ c. omega (arith, f .lowest d j l c, first-now, row-first j (s .dues)))
 
-  pub replenished-ahead : ahead (replenish (firstOf s .thread) s) < ahead s
-  unfolding ahead
-  replenished-ahead =
-      rw (ne-eqb (firstOf s .thread) 32 d, le-leb (firstOf s .due) (s .now) e)
-      (go (ℕ-discrete (firstOf (replenish (firstOf s .thread) s) .thread) 32)
-      (leb (firstOf (replenish (firstOf s .thread) s) .due) (replenish (firstOf s .thread) s .now)) refl)
-    where
-      g : Found (replenish (firstOf s .thread) s .counts) (replenish (firstOf s .thread) s .dues) (replenish (firstOf s .thread) s .header .n) (firstOf (replenish (firstOf s .thread) s))
-      g = found (replenish (firstOf s .thread) s .counts) (replenish (firstOf s .thread) s .dues) (replenish (firstOf s .thread) s .header .n) (omega (tests, after .sizes))
+      still : (j : ℕ) → j < firstOf s .thread → firstIsDue (s .now) (pendingAt backed j) ≡ false
+      still j l =
+          ap (firstIsDue (s .now))
+          (pending-other s (firstOf s .thread) first-small (threadAt s (firstOf s .thread)) (backFirst (firstOf s .thread) s .account) (h .sizes) dues-eight amounts-eight j (λ q. omega arith))
+          ∙ below j l
 
-      go : Dec (firstOf (replenish (firstOf s .thread) s) .thread ≡ 32) → (b : Bool)
-          → leb (firstOf (replenish (firstOf s .thread) s) .due) (replenish (firstOf s .thread) s .now) ≡ b
-          → cond (eqb (firstOf (replenish (firstOf s .thread) s) .thread) 32) 0
-          (cond (leb (firstOf (replenish (firstOf s .thread) s) .due) (replenish (firstOf s .thread) s .now)) (32 - firstOf (replenish (firstOf s .thread) s) .thread) 0)
-          < 32 - firstOf s .thread
-      go (yes q) b p = rw (eq-eqb (firstOf (replenish (firstOf s .thread) s) .thread) 32 q) (omega (arith, first-small))
-      go (no q) false p = rw (ne-eqb (firstOf (replenish (firstOf s .thread) s) .thread) 32 q, p) (omega (arith, first-small))
-      go (no q) true p =
-          rw (ne-eqb (firstOf (replenish (firstOf s .thread) s) .thread) 32 q, p)
-          (omega (arith, first-small, past (ltb (firstOf s .thread) (firstOf (replenish (firstOf s .thread) s) .thread)) refl))
-        where
-          past : (b : Bool) → ltb (firstOf s .thread) (firstOf (replenish (firstOf s .thread) s) .thread) ≡ b → firstOf s .thread < firstOf (replenish (firstOf s .thread) s) .thread
-          past true r = ltb-true (firstOf s .thread) (firstOf (replenish (firstOf s .thread) s) .thread) r
-          past false r =
-              let y = g .some q in
-              absurd
-              (omega (
-                arith,
-                y .2,
-                row-first (firstOf (replenish (firstOf s .thread) s) .thread) (replenish (firstOf s .thread) s .dues),
-                now-kept,
-                leb-true (firstOf (replenish (firstOf s .thread) s) .due) (replenish (firstOf s .thread) s .now) p,
-                passed-by (firstOf (replenish (firstOf s .thread) s) .thread) (ltb-false (firstOf s .thread) (firstOf (replenish (firstOf s .thread) s) .thread) r) (y .1),
-              ))
+  -- one entry fewer
+  pub backed-fewer : sum (backed .counts) < sum (s .counts)
+  backed-fewer =
+      let r = f .some d in
+      omega (
+        tests,
+        h .sizes,
+        first-small,
+        r .1,
+        ap (λ (q : Pending). q .count) entries,
+        sum-set (s .counts) (firstOf s .thread) (backFirst (firstOf s .thread) s .account .pending .count) (omega (tests, h .sizes, first-small)),
+      )
 
 -- ---- nothing is due now
 
@@ -291,9 +284,9 @@ pub record Going (s₀ : State) (t : ℕ) (s : State) : Type 0 where
   pub by : s .now ≤ t
   pub same : passed (replenishBelow (s .header .n) s) t ≡ passed s₀ t
 
--- what falls with each turn: the ticks that are left, then the threads that are ahead
+-- what falls with each turn: a limit or a quantum's end takes at least a tick and adds at most one entry, a return takes one entry
 unfoldable pub weight : ℕ → State → ℕ
-weight t s = (t - s .now) * 33 + ahead s
+weight t s = (t - s .now) * 2 + sum (s .counts)
 
 pub start : (s : State) (t : ℕ) → Sound s → s .now ≤ t → Going s t s
 start s t h l = record { mid = sound-mid s h; by = l; same = ap (λ (u : State). passed u t) (settled-same s (sound-mid s h) later) }
@@ -335,7 +328,7 @@ module _ (s₀ s : State) (t : ℕ) (g : Going s₀ t s) where
             by = omega (arith, n);
             same = ap (λ (x : Header). passed (replenishBelow (x .n) (limits u)) t) x ∙ later-same q;
           },
-          omega (arith, n, ahead-most (limits u)),
+          omega (arith, n, limits-counted u),
         )
 
     -- no limit: the first due is at the next moment, which may be now
@@ -383,23 +376,15 @@ module _ (s₀ s : State) (t : ℕ) (g : Going s₀ t s) where
       pub due-now : firstOf s .due ≤ u .now
       due-now = omega (arith, is-due .0, not-past)
 
-      pub turn-due : Going s₀ t (replenish (firstOf s .thread) u) × (weight t (replenish (firstOf s .thread) u) < weight t s)
+      pub turn-due : Going s₀ t (withOutcome (firstOf s .thread) (backFirst (firstOf s .thread) u) u)
+          × (weight t (withOutcome (firstOf s .thread) (backFirst (firstOf s .thread) u) u) < weight t s)
       unfolding weight
       turn-due =
-          let c = charged-going in
-          let n = keeps-replenish (λ (v : State). v .now) (λ i o v. refl) (λ p i v. refl) (firstOf s .thread) u in (
+          let c = charged-going in (
             record {
-              mid = replenished-mid u (c .mid) due-some due-now;
-              by = omega (arith, n, c .by);
-              same = ap (λ (v : State). passed v t) (replenished-same u (c .mid) due-some due-now) ∙ c .same;
+              mid = backed-mid u (c .mid) due-some due-now;
+              by = c .by;
+              same = ap (λ (v : State). passed v t) (backed-same u (c .mid) due-some due-now) ∙ c .same;
             },
-            falls n (ltb (s .now) (next s)) refl,
+            omega (arith, backed-fewer u (c .mid) due-some due-now, not-past),
           )
-        where
-          falls : replenish (firstOf s .thread) u .now ≡ u .now → (b : Bool) → ltb (s .now) (next s) ≡ b
-              → (t - replenish (firstOf s .thread) u .now) * 33 + ahead (replenish (firstOf s .thread) u) < (t - s .now) * 33 + ahead s
-          falls n true r = omega (arith, ltb-true (s .now) (next s) r, ahead-most (replenish (firstOf s .thread) u))
-          falls n false r =
-              let q : next s - s .now ≡ 0 = omega (arith, ltb-false (s .now) (next s) r) in
-              let y = replenished-ahead u (charged-going .mid) due-some due-now in
-              omega (arith, y, ap ahead (ap (λ (k : ℕ). charge k s) q ∙ charge-none s))
