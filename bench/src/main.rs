@@ -1,13 +1,15 @@
-//! Replays the same events through the proved code and through the model, both in place and both
-//! with the test of soundness that an event begins with, and prints nanoseconds and instructions
-//! for an event and for a moment.
+//! Replays the same events through the proved code and through the plain program beside this one
+//! (`plain`), both in place and both with the test of soundness that an event begins with, and
+//! prints nanoseconds and instructions for an event and for a moment.
 //!
 //! `bench`: times. `bench --once`: each measurement once, for callgrind, which counts inside
 //! `bench_measured`. `bench --instructions FILE`: times, and the counts of that run, one to a line.
 
+mod given;
+
 use differential as board;
-use model::random::Random;
-use model::{Event, Parameters, State, BLOCK, CLOCK, RR, SET, SPORADIC, THREADS, WAKE, YIELD};
+use plain::random::Random;
+use plain::{Event, Parameters, State, BLOCK, CLOCK, RR, SET, SPORADIC, THREADS, WAKE, YIELD};
 use std::hint::black_box;
 use std::time::Instant;
 
@@ -76,14 +78,14 @@ fn opened(x: Setting) -> State {
             p.budget = if x.small { 4 } else { 1_000_000 };
         }
     }
-    let (answer, mut s) = model::open(0, x.n, &table);
+    let (answer, mut s) = plain::open(0, x.n, &table);
     assert_eq!(answer.status, 0);
     if x.many {
         while s.threads[..sporadic]
             .iter()
             .any(|t| t.used + t.capacity > 0)
         {
-            let running = model::running(&s);
+            let running = plain::running(&s);
             let now = s.now;
             accept(&mut s, event(now + 1, CLOCK, 0));
             if (running as usize) < sporadic && s.threads[running as usize].used > 0 {
@@ -108,7 +110,7 @@ fn event(time: u64, kind: u8, thread: u8) -> Event {
 }
 
 fn accept(s: &mut State, e: Event) -> Event {
-    let a = model::event(s, &e);
+    let a = plain::event(s, &e);
     assert_eq!(a.status, 0, "{e:?}");
     e
 }
@@ -162,7 +164,7 @@ fn moments_until(s: &State, time: u64) -> u64 {
     let mut s = *s;
     let mut count = 0;
     loop {
-        let next = model::next_moment(&s);
+        let next = plain::next_moment(&s);
         if next == 0 || next > time {
             return count;
         }
@@ -187,8 +189,8 @@ impl Case {
         Case {
             what,
             state: *state,
-            given: state.into(),
-            records: events.iter().map(|e| (*e).into()).collect(),
+            given: given::state(state),
+            records: events.iter().map(given::event).collect(),
             events,
             moments,
         }
@@ -207,7 +209,7 @@ extern "C" fn bench_measured(case: &Case, code: bool, s: &mut State, t: &mut boa
         }
         (What::Soundness, false) => {
             for _ in &case.events {
-                black_box(model::sound(black_box(s)));
+                black_box(plain::sound(black_box(s)));
             }
         }
         (_, true) => {
@@ -217,7 +219,7 @@ extern "C" fn bench_measured(case: &Case, code: bool, s: &mut State, t: &mut boa
         }
         (_, false) => {
             for e in &case.events {
-                black_box(model::event(s, e));
+                black_box(plain::event(s, e));
             }
         }
     }
@@ -238,7 +240,7 @@ fn agree(case: &Case) {
     let (mut s, mut t) = (case.state, case.given);
     bench_measured(case, false, &mut s, &mut t);
     bench_measured(case, true, &mut s, &mut t);
-    assert!(State::from(&t) == s, "the two ended in different states");
+    assert!(given::state(&s) == t, "the two ended in different states");
 }
 
 /// What a row shows: for an event of all kinds, for a moment, a reading and the test alone.
@@ -356,15 +358,15 @@ fn main() {
         if table.is_empty() {
             continue;
         }
-        println!("{unit}, code / model = ratio");
+        println!("{unit}, code / plain Rust = ratio");
         println!(
             " N  pend. quant. | {:^27} | {:^23} | {:^23} | {:^23}",
             "an event (moments in it)", "a moment", "a reading at now", "soundness alone"
         );
-        for (name, mix, code, model) in table {
+        for (name, mix, code, plain) in table {
             print!("{name} |");
             for k in 0..4 {
-                let (a, b) = (code.each[k], model.each[k]);
+                let (a, b) = (code.each[k], plain.each[k]);
                 print!(" {a:>7.0} / {b:>6.0} = {:>4.2}", a / b);
                 print!(
                     "{}",

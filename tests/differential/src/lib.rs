@@ -50,7 +50,8 @@ pub struct Thread {
     pub server: Server,
 }
 
-const ROW: usize = THREADS + 1;
+/// The bytes of one list: its length, then its places.
+pub const ROW: usize = THREADS + 1;
 
 #[repr(C)]
 #[derive(Clone, Copy, Debug, PartialEq, Eq)]
@@ -198,6 +199,23 @@ pub fn table_of(table: &[model::Parameters; THREADS]) -> Table {
     }
 }
 
+/// Zeros in every field.
+impl Default for State {
+    fn default() -> State {
+        State {
+            header: Header::default(),
+            now: 0,
+            idle: 0,
+            word: 0,
+            threads: [Thread::default(); THREADS],
+            counts: [0; THREADS],
+            dues: [0; THREADS * PENDING],
+            amounts: [0; THREADS * PENDING],
+            lists: [0; PRIORITIES * ROW],
+        }
+    }
+}
+
 impl From<&model::State> for State {
     fn from(s: &model::State) -> State {
         let mut r = State {
@@ -208,11 +226,7 @@ impl From<&model::State> for State {
             now: s.now,
             idle: s.idle,
             word: s.word,
-            threads: [Thread::default(); THREADS],
-            counts: [0; THREADS],
-            dues: [0; THREADS * PENDING],
-            amounts: [0; THREADS * PENDING],
-            lists: [0; PRIORITIES * ROW],
+            ..State::default()
         };
         for (i, t) in s.threads.iter().enumerate() {
             r.threads[i] = Thread {

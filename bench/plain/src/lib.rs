@@ -1,0 +1,59 @@
+//! The executive's rules (01-scope, called 01 here) in plain Rust, as a person
+//! who wants them fast writes them: what the proved code is measured against.
+//! It may get faster, never slower; what is right is the model's to say.
+//!
+//! One processor; SCHED_FIFO, SCHED_RR and SCHED_SPORADIC; the state, the
+//! events, the trace file's reader and writer, and the listing of a replay.
+//! The state changes in place and the event path allocates nothing.
+#![forbid(unsafe_code)]
+
+mod event;
+pub mod random;
+mod state;
+mod trace;
+
+pub use event::{event, next_moment, open, running, step, Answer, Event};
+pub use state::{assigned, in_range, sound, upper, List, Parameters, State, Thread};
+pub use trace::{listing, read, total_bytes, write, Trace};
+
+// 01, Numbers.
+pub const THREADS: usize = 32;
+pub const PRIORITIES: usize = 32;
+pub const PENDING: usize = 8;
+pub const MAX_TICKS: u64 = 1_000_000_000;
+pub const MAX_TIME: u64 = 1_000_000_000_000_000;
+pub const MAX_STEP: u64 = 1_000_000;
+pub const MAX_EVENTS: usize = 1_500;
+
+// 01, Trace file: the policies' numbers.
+pub const FIFO: u8 = 0;
+pub const RR: u8 = 1;
+pub const SPORADIC: u8 = 2;
+
+// 01, Events: the kinds.
+pub const CLOCK: u8 = 0;
+pub const BLOCK: u8 = 1;
+pub const YIELD: u8 = 2;
+pub const WAKE: u8 = 3;
+pub const SET: u8 = 4;
+
+/// The running thread when nothing runs (01, Events).
+pub const NOBODY: u8 = 255;
+
+/// 01, Status numbers.
+pub mod status {
+    pub const ACCEPTED: u8 = 0;
+    pub const EARLY: u8 = 1;
+    pub const FAR: u8 = 2;
+    pub const TIME: u8 = 3;
+    pub const KIND: u8 = 4;
+    pub const THREAD: u8 = 5;
+    pub const PARAMETERS: u8 = 6;
+    pub const NOTHING_RUNS: u8 = 7;
+    pub const NOT_BLOCKED: u8 = 8;
+    pub const UNSOUND: u8 = 9;
+    pub const SHORT: u8 = 10;
+    pub const HEADER: u8 = 11;
+    pub const BUFFER: u8 = 12;
+    pub const FILLER: u8 = 13;
+}
