@@ -53,7 +53,8 @@ pub struct State {
     pub lists: [List; PRIORITIES],
 }
 
-/// 01, Numbers: the parameters without the start flag, unused fields 0.
+/// 01 Numbers 2 to 4 and 8 to 10: the parameters without the start flag, unused
+/// fields 0.
 pub fn in_range(p: &Parameters) -> bool {
     let priority = 1 <= p.priority && p.priority as usize <= PRIORITIES;
     let budget = 1 <= p.budget && p.budget <= MAX_TICKS;
@@ -75,13 +76,13 @@ pub fn in_range(p: &Parameters) -> bool {
     }
 }
 
-/// 01, State: a sporadic thread has its upper priority while it has capacity
+/// 01 State 9: a sporadic thread has its upper priority while it has capacity
 /// and fewer than max_repl pending. Meant for sporadic threads only.
 pub fn upper(t: &Thread) -> bool {
     t.capacity > 0 && t.pending < t.parameters.max_repl
 }
 
-/// The assigned priority.
+/// 01 State 9: the assigned priority.
 pub fn assigned(t: &Thread) -> u8 {
     if t.parameters.policy == SPORADIC && !upper(t) {
         t.parameters.low
@@ -90,125 +91,118 @@ pub fn assigned(t: &Thread) -> u8 {
     }
 }
 
-/// 01, State, "A state is sound when". Decides for any contents of any field:
-/// nothing is used as an index or added up before it is known to be in range,
-/// and sums over garbage are taken in u128.
+/// 01 State 5: the list's lines, in 01's order. Decides for any contents of any
+/// field: the lines after State 6 may count on N, parameters and times in range,
+/// no line on more, and sums are taken in u128.
 pub fn sound(s: &State) -> bool {
-    if s.n < 1 || s.n as usize > THREADS || s.start > s.now || s.now > MAX_TIME {
+    if s.n < 1 || s.n as usize > THREADS {
         return false;
     }
-    let n = s.n as usize;
-    let (used, rest) = s.threads.split_at(n);
-    if rest.iter().any(|t| *t != Thread::default()) {
-        return false;
-    }
-    if !used.iter().all(|t| thread_sound(s, t)) {
-        return false;
-    }
-    // All run times + idle time = now - start.
-    let run: u128 = used.iter().map(|t| t.total as u128).sum();
-    if run + s.idle as u128 != (s.now - s.start) as u128 {
-        return false;
-    }
-    lists_sound(s, used)
+    let (threads, past) = s.threads.split_at(s.n as usize);
+    // State 6
+    threads.iter().all(|t| in_range(&t.parameters))
+        && s.start <= s.now
+        && s.now <= MAX_TIME
+        // State 7, 8
+        && stands(s, threads)
+        && word_agrees(s)
+        // State 10 to 14
+        && threads
+            .iter()
+            .filter(|t| t.parameters.policy == SPORADIC)
+            .all(|t| sums(t) && used(s, t) && dues(s, t) && activation(s, t) && upper_dues(t))
+        // State 15
+        && threads
+            .iter()
+            .filter(|t| t.parameters.policy == RR)
+            .all(|t| 1 <= t.quantum && t.quantum <= t.parameters.budget)
+        // State 16
+        && threads.iter().map(|t| t.total as u128).sum::<u128>() + s.idle as u128
+            == (s.now - s.start) as u128
+        // State 17
+        && threads.iter().all(unused_are_zero)
+        && past.iter().all(|t| *t == Thread::default())
+        && s.lists.iter().all(|l| l.members.iter().skip(l.length as usize).all(|&m| m == 0))
 }
 
-fn thread_sound(s: &State, t: &Thread) -> bool {
-    let p = &t.parameters;
-    if !in_range(p) || p.flag != 0 {
-        return false;
-    }
-    let quantum = if p.policy == RR {
-        1 <= t.quantum && t.quantum <= p.budget
-    } else {
-        t.quantum == 0
-    };
-    quantum
-        && if p.policy == SPORADIC {
-            account_sound(s, t)
+/// The members of a list; no more than it has places.
+fn members(list: &List) -> &[u8] {
+    &list.members[..(list.length as usize).min(THREADS)]
+}
+
+/// 01 State 7: a runnable thread stands once, in the list of its assigned
+/// priority; a blocked one in none. Nothing else stands in a list.
+fn stands(s: &State, threads: &[Thread]) -> bool {
+    let times = |list: &List, i: usize| members(list).iter().filter(|&&m| m as usize == i).count();
+    let once_or_none = |(i, t): (usize, &Thread)| {
+        let all: usize = s.lists.iter().map(|list| times(list, i)).sum();
+        if t.blocked {
+            all == 0
         } else {
-            // Fields that don't apply hold 0.
-            t.capacity == 0
-                && t.used == 0
-                && t.activation == 0
-                && t.pending == 0
-                && t.dues == [0; PENDING]
-                && t.amounts == [0; PENDING]
+            all == 1 && times(&s.lists[assigned(t) as usize - 1], i) == 1
         }
+    };
+    threads.iter().enumerate().all(once_or_none)
+        && s.lists.iter().all(|list| {
+            list.length as usize <= THREADS && members(list).iter().all(|&m| (m as u32) < s.n)
+        })
 }
 
-/// The lines on capacity, U, pending and activation; parameters are in range.
-fn account_sound(s: &State, t: &Thread) -> bool {
-    let p = &t.parameters;
-    if t.pending > p.max_repl {
-        return false;
-    }
-    if t.activation < s.start || t.activation > s.now {
-        return false;
-    }
-    let (dues, no_dues) = t.dues.split_at(t.pending as usize);
-    let (amounts, no_amounts) = t.amounts.split_at(t.pending as usize);
-    if no_dues.iter().chain(no_amounts).any(|&x| x != 0) {
-        return false;
-    }
-    // Capacity + U + all pending amounts = budget; amounts >= 1.
-    let pending: u128 = amounts.iter().map(|&a| a as u128).sum();
-    if t.capacity as u128 + t.used as u128 + pending != p.budget as u128 || amounts.contains(&0) {
-        return false;
-    }
-    // U = 0 if the thread is blocked or low; at most now - activation time.
-    if (t.blocked || !upper(t)) && t.used != 0 {
-        return false;
-    }
-    if t.used > s.now - t.activation {
-        return false;
-    }
-    // Dues strictly rise, each after now and at most now + period - 1; for a
-    // runnable thread at its upper priority each before activation + period.
-    let mut before = s.now;
-    for &due in dues {
-        if due <= before {
-            return false;
-        }
-        before = due;
-    }
-    let last = if !t.blocked && upper(t) {
-        t.activation
-    } else {
-        s.now
-    } + p.period
-        - 1;
-    dues.iter().all(|&due| due <= last)
+/// 01 State 8, and State 4: bit p - 1 is set exactly when list p holds a thread.
+fn word_agrees(s: &State) -> bool {
+    (1..=PRIORITIES).all(|p| (s.word >> (p - 1) & 1 == 1) == (s.lists[p - 1].length > 0))
 }
 
-/// A runnable thread stands once, in the list of its assigned priority; a
-/// blocked one in none; the word agrees; places past a length hold 0.
-fn lists_sound(s: &State, threads: &[Thread]) -> bool {
-    let mut seen = 0u32;
-    for (k, list) in s.lists.iter().enumerate() {
-        let length = list.length as usize;
-        if length == 0 && s.word >> k & 1 == 0 && list.members == [0; THREADS] {
-            continue;
-        }
-        if length > THREADS || (s.word >> k & 1 == 1) != (length > 0) {
-            return false;
-        }
-        let (members, rest) = list.members.split_at(length);
-        if rest.iter().any(|&m| m != 0) {
-            return false;
-        }
-        for &m in members {
-            let Some(t) = threads.get(m as usize) else {
-                return false;
-            };
-            if t.blocked || assigned(t) as usize != k + 1 || seen >> m & 1 == 1 {
-                return false;
-            }
-            seen |= 1 << m;
-        }
-    }
-    threads
-        .iter()
-        .enumerate()
-        .all(|(i, t)| t.blocked || seen >> i & 1 == 1)
+/// The pending replenishments, each a due time and an amount.
+fn pending(t: &Thread) -> impl Iterator<Item = (u64, u64)> + '_ {
+    let entries = t.dues.iter().copied().zip(t.amounts);
+    entries.take(t.pending as usize)
+}
+
+/// 01 State 10: capacity + U + all pending amounts = budget.
+fn sums(t: &Thread) -> bool {
+    let amounts: u128 = pending(t).map(|(_, amount)| amount as u128).sum();
+    t.capacity as u128 + t.used as u128 + amounts == t.parameters.budget as u128
+}
+
+/// 01 State 11: U = 0 if the thread is blocked or low; U is at most now -
+/// activation time.
+fn used(s: &State, t: &Thread) -> bool {
+    let must_be_zero = t.blocked || !upper(t);
+    (!must_be_zero || t.used == 0) && t.used as u128 + t.activation as u128 <= s.now as u128
+}
+
+/// 01 State 12: pending count <= max_repl; amounts >= 1; dues strictly rise, each
+/// after now and at most now + period - 1.
+fn dues(s: &State, t: &Thread) -> bool {
+    let rise = pending(t)
+        .zip(pending(t).skip(1))
+        .all(|((due, _), (later, _))| due < later);
+    t.pending <= t.parameters.max_repl
+        && pending(t).all(|(_, amount)| amount >= 1)
+        && rise
+        && pending(t).all(|(due, _)| s.now < due && due <= s.now + t.parameters.period - 1)
+}
+
+/// 01 State 13: activation time lies between start and now.
+fn activation(s: &State, t: &Thread) -> bool {
+    s.start <= t.activation && t.activation <= s.now
+}
+
+/// 01 State 14: for a runnable thread at its upper priority every due is before
+/// activation time + period.
+fn upper_dues(t: &Thread) -> bool {
+    let limit = t.activation as u128 + t.parameters.period as u128;
+    t.blocked || !upper(t) || pending(t).all(|(due, _)| (due as u128) < limit)
+}
+
+/// 01 State 17: fields that don't apply hold 0. Inside a state the start flag
+/// doesn't, nor does a place from the pending count on.
+fn unused_are_zero(t: &Thread) -> bool {
+    let places = || t.dues.iter().zip(&t.amounts).skip(t.pending as usize);
+    let account = t.capacity == 0 && t.used == 0 && t.activation == 0 && t.pending == 0;
+    t.parameters.flag == 0
+        && (t.parameters.policy == RR || t.quantum == 0)
+        && (t.parameters.policy == SPORADIC || account)
+        && places().all(|(due, amount)| *due == 0 && *amount == 0)
 }
