@@ -98,7 +98,7 @@ impl Coverage {
         self.reached(after);
     }
 
-    /// Goes to the event's time by a clock reading at each moment, which changes nothing else.
+    /// Goes to the event's time from moment to moment.
     fn passing(&mut self, s: &mut State, e: &Event) {
         for _ in 0..MOMENTS {
             let next = model::next_moment(s);
@@ -109,9 +109,9 @@ impl Coverage {
             self.charge(s, next - s.now);
             self.moment(s, next);
             self.at_moment[e.kind as usize] += (next == e.time) as u64;
-            clock(s, next);
+            model::pass(s, next);
         }
-        clock(s, e.time);
+        model::pass(s, e.time);
     }
 
     fn charge(&mut self, s: &State, ticks: u64) {
@@ -215,14 +215,6 @@ fn bounds(s: &State, e: &Event) -> [(bool, u8); 7] {
         (e.time == MAX_TIME + 1, status::TIME),
         (e.kind == WAKE && e.thread as u32 == s.n, status::THREAD),
     ]
-}
-
-fn clock(s: &mut State, time: u64) {
-    let e = Event {
-        time,
-        ..Event::default()
-    };
-    model::step(s, &e);
 }
 
 fn runner(s: &State) -> Option<&Thread> {

@@ -1,8 +1,10 @@
-//! An independent model of the executive's rules (01-scope, called 01 here).
+//! An independent model of the executive's rules (01-scope, called 01 here),
+//! written from 01's words alone: it shares no shortcut with the code, and where
+//! 01 says a thing twice, so does the model. A sentence is cited as `01 State 7`,
+//! the seventh of its section. Speed is not its business.
 //!
 //! One processor; SCHED_FIFO, SCHED_RR and SCHED_SPORADIC; the state, the
 //! events, the trace file's reader and writer, and the listing of a replay.
-//! The state changes in place and the event path allocates nothing.
 #![forbid(unsafe_code)]
 
 mod event;
@@ -10,7 +12,7 @@ pub mod random;
 mod state;
 mod trace;
 
-pub use event::{event, next_moment, open, running, step, Answer, Event};
+pub use event::{event, next_moment, open, pass, running, Answer, Event};
 pub use state::{assigned, in_range, sound, upper, List, Parameters, State, Thread};
 pub use trace::{listing, read, total_bytes, write, Trace};
 
