@@ -39,7 +39,7 @@ pub fn state(s: &plain::State) -> board::State {
     for (i, t) in s.threads.iter().enumerate() {
         given.threads[i] = board::Thread {
             parameters: parameters(&t.parameters),
-            blocked: t.blocked,
+            blocked: t.blocked as u8,
             total: t.total,
             left: t.quantum,
             server: board::Server {

@@ -133,8 +133,8 @@ impl Coverage {
         let due = |t: &&Thread| t.pending > 0 && t.dues[0] == at;
         let dues = s.threads.iter().filter(due).count();
         for t in s.threads.iter().filter(due) {
-            let place = match (t.blocked, model::upper(t), t.capacity) {
-                (true, ..) => 0,
+            let place = match (t.runnable(), model::upper(t), t.capacity) {
+                (false, ..) => 0,
                 (_, true, _) => 1,
                 (.., 0) => 2,
                 _ => 3,

@@ -44,7 +44,7 @@ pub struct Server {
 #[derive(Clone, Copy, Debug, Default, PartialEq, Eq)]
 pub struct Thread {
     pub parameters: Parameters,
-    pub blocked: bool,
+    pub blocked: u8,
     pub total: u64,
     pub left: u64,
     pub server: Server,

@@ -71,7 +71,7 @@ fn opened(start: u64, n: u32, table: &[Parameters; THREADS]) -> Result<State, u8
     };
     for (i, p) in table.iter().enumerate() {
         renew(&mut s, i, p);
-        s.threads[i].blocked = p.flag == 0;
+        s.threads[i].blocked = (p.flag == 0) as u8;
         if p.flag == 1 {
             join(&mut s, i, p.priority);
         }
@@ -126,7 +126,7 @@ fn after(given: &State, e: &Event) -> Result<State, u8> {
     let i = e.thread as usize;
     match e.kind {
         BLOCK | YIELD if runs == NOBODY => return Err(status::NOTHING_RUNS),
-        WAKE if !s.threads[i].blocked => return Err(status::NOT_BLOCKED),
+        WAKE if s.threads[i].runnable() => return Err(status::NOT_BLOCKED),
         BLOCK => block(&mut s, runs as usize),
         YIELD => yield_(&mut s, runs as usize),
         WAKE => wake(&mut s, i),
@@ -140,7 +140,7 @@ fn after(given: &State, e: &Event) -> Result<State, u8> {
 /// 01 Events 3: the running thread leaves its list; if sporadic, U is scheduled.
 fn block(s: &mut State, i: usize) {
     leave(s, i);
-    s.threads[i].blocked = true;
+    s.threads[i].blocked = 1;
     if s.threads[i].parameters.policy == SPORADIC {
         schedule(s, i);
     }
@@ -159,7 +159,7 @@ fn yield_(s: &mut State, i: usize) {
 /// upper priority: activation time = now; RR: full quantum.
 fn wake(s: &mut State, i: usize) {
     let own = assigned(&s.threads[i]);
-    s.threads[i].blocked = false;
+    s.threads[i].blocked = 0;
     join(s, i, own);
     let t = &mut s.threads[i];
     if t.parameters.policy == SPORADIC && upper(t) {
@@ -171,11 +171,11 @@ fn wake(s: &mut State, i: usize) {
 /// 01 Events 6: a runnable thread becomes the tail of its new list, a blocked one
 /// stays blocked.
 fn set(s: &mut State, i: usize, p: &Parameters) {
-    if !s.threads[i].blocked {
+    if s.threads[i].runnable() {
         leave(s, i);
     }
     renew(s, i, p);
-    if !s.threads[i].blocked {
+    if s.threads[i].runnable() {
         join(s, i, p.priority);
     }
 }
@@ -326,7 +326,7 @@ fn schedule(s: &mut State, i: usize) {
 fn replenish(s: &mut State, i: usize, amount: u64, was_low: bool) {
     let t = &mut s.threads[i];
     t.capacity = (t.capacity + amount).min(t.parameters.budget);
-    if !t.blocked && was_low {
+    if t.runnable() && was_low {
         t.activation = s.now;
         let own = t.parameters.priority;
         leave(s, i);

@@ -220,7 +220,7 @@ impl Random {
             Aim::Idle => self.pick(&[0, 0, 1, 1, 2, 3, 4]),
             Aim::Pending => self.pick(&[0, 1, 1, 1, 2, 3, 3, 3]),
         } as u8;
-        let blocked = in_use(s).iter().any(|t| t.blocked);
+        let blocked = in_use(s).iter().any(|t| !t.runnable());
         match kind {
             _ if self.one_in(4) => kind,
             BLOCK | YIELD if s.word == 0 => CLOCK,
@@ -235,7 +235,7 @@ impl Random {
         let n = in_use(s).len();
         let first = self.below(n as u64) as usize;
         let mut after = (first..n).chain(0..first);
-        let blocked = |&i: &usize| s.threads[i].blocked;
+        let blocked = |&i: &usize| !s.threads[i].runnable();
         let found = if aim == Aim::Pending {
             after.filter(blocked).max_by_key(|&i| s.threads[i].pending)
         } else {
@@ -306,7 +306,7 @@ impl Random {
             let total = self.part(left);
             left -= total;
             s.threads[i].total = total;
-            s.threads[i].blocked = self.below(4) >= runnable;
+            s.threads[i].blocked = (self.below(4) >= runnable) as u8;
             s.threads[i].parameters = self.parameters();
             let p = s.threads[i].parameters;
             match p.policy {
@@ -322,7 +322,7 @@ impl Random {
             s.threads[n as usize - 1].total += left;
         }
         for i in order {
-            if !s.threads[i].blocked {
+            if s.threads[i].runnable() {
                 let k = assigned(&s.threads[i]) as usize - 1;
                 let list = &mut s.lists[k];
                 list.members[list.length as usize] = i as u8;
@@ -345,7 +345,7 @@ impl Random {
     fn account(&mut self, s: &mut State, i: usize) {
         let (start, now) = (s.start, s.now);
         let p = s.threads[i].parameters;
-        let blocked = s.threads[i].blocked;
+        let blocked = !s.threads[i].runnable();
         let back = match self.below(3) {
             0 => self.below(now - start + 1),
             1 => 0,
@@ -445,7 +445,7 @@ impl Random {
             4 => s.word ^= 1 << p,
             5 => s.word = odd as u32,
             6..=8 => self.damage_parameters(&mut t.parameters),
-            9 => t.blocked = !t.blocked,
+            9 => t.blocked ^= 1,
             10 => nudge8(&mut t.pending),
             11 => nudge(&mut t.total),
             12 => nudge(&mut t.quantum),

@@ -20,7 +20,8 @@ pub struct Parameters {
 #[derive(Clone, Copy, Debug, Default, PartialEq, Eq)]
 pub struct Thread {
     pub parameters: Parameters,
-    pub blocked: bool,
+    /// 1 where it is blocked, 0 where it is runnable; no other number says either.
+    pub blocked: u8,
     pub pending: u8,
     pub total: u64,
     /// Quantum left (RR).
@@ -31,6 +32,12 @@ pub struct Thread {
     pub activation: u64,
     pub dues: [u64; PENDING],
     pub amounts: [u64; PENDING],
+}
+
+impl Thread {
+    pub fn runnable(&self) -> bool {
+        self.blocked == 0
+    }
 }
 
 /// The list of one priority, head first; places from `length` on hold 0.
@@ -103,7 +110,8 @@ pub fn sound(s: &State) -> bool {
     threads.iter().all(|t| in_range(&t.parameters))
         && s.start <= s.now
         && s.now <= MAX_TIME
-        // State 7, 8
+        // State 2, 7, 8
+        && threads.iter().all(|t| t.blocked <= 1)
         && stands(s, threads)
         && word_agrees(s)
         // State 10 to 14
@@ -136,10 +144,10 @@ fn stands(s: &State, threads: &[Thread]) -> bool {
     let times = |list: &List, i: usize| members(list).iter().filter(|&&m| m as usize == i).count();
     let once_or_none = |(i, t): (usize, &Thread)| {
         let all: usize = s.lists.iter().map(|list| times(list, i)).sum();
-        if t.blocked {
-            all == 0
-        } else {
+        if t.runnable() {
             all == 1 && times(&s.lists[assigned(t) as usize - 1], i) == 1
+        } else {
+            all == 0
         }
     };
     threads.iter().enumerate().all(once_or_none)
@@ -168,7 +176,7 @@ fn sums(t: &Thread) -> bool {
 /// 01 State 11: U = 0 if the thread is blocked or low; U is at most now -
 /// activation time.
 fn used(s: &State, t: &Thread) -> bool {
-    let must_be_zero = t.blocked || !upper(t);
+    let must_be_zero = !t.runnable() || !upper(t);
     (!must_be_zero || t.used == 0) && t.used as u128 + t.activation as u128 <= s.now as u128
 }
 
@@ -193,7 +201,7 @@ fn activation(s: &State, t: &Thread) -> bool {
 /// activation time + period.
 fn upper_dues(t: &Thread) -> bool {
     let limit = t.activation as u128 + t.parameters.period as u128;
-    t.blocked || !upper(t) || pending(t).all(|(due, _)| (due as u128) < limit)
+    !t.runnable() || !upper(t) || pending(t).all(|(due, _)| (due as u128) < limit)
 }
 
 /// 01 State 17: fields that don't apply hold 0. Inside a state the start flag

@@ -445,7 +445,7 @@ fn rr_quantum_at_block_yield_wake_and_preemption() {
     assert_eq!(s.threads[1].quantum, 10);
     // At the very end of a quantum a block blocks the thread that runs next.
     assert_eq!(give(&mut s, ev(BLOCK, 24, 0)), (0, 0, 34));
-    assert!(s.threads[1].blocked);
+    assert_eq!(s.threads[1].blocked, 1);
 }
 
 #[test]
@@ -460,7 +460,7 @@ fn set_sends_to_the_tail_and_keeps_the_total() {
     assert_eq!((t.capacity, t.used, t.activation, t.total), (5, 0, 7, 3));
     assert_eq!(give(&mut s, ev(BLOCK, 7, 0)), (0, 2, 12));
     assert_eq!(give(&mut s, set(8, 0, rr(30, 4))), (0, 2, 12));
-    assert!(s.threads[0].blocked);
+    assert_eq!(s.threads[0].blocked, 1);
     assert_eq!(s.threads[0].quantum, 4);
 }
 

@@ -148,7 +148,7 @@ fn garbage_states() {
             } else {
                 r.damage_parameters(&mut t.parameters);
             }
-            t.blocked = r.one_in(2);
+            t.blocked = r.odd() as u8;
             t.pending = r.odd() as u8;
             for x in [
                 &mut t.total,

@@ -69,7 +69,7 @@ fn base() -> State {
     s.threads[4] = with(t, &[(1_005, 4)]);
     let t = Thread {
         parameters: sporadic(22, 6, 8),
-        blocked: true,
+        blocked: 1,
         capacity: 9,
         activation: 100,
         ..Thread::default()
@@ -77,12 +77,12 @@ fn base() -> State {
     s.threads[5] = with(t, &[(1_039, 1)]);
     s.threads[6] = Thread {
         parameters: fifo(3),
-        blocked: true,
+        blocked: 1,
         ..Thread::default()
     };
     s.threads[7] = Thread {
         parameters: rr(32),
-        blocked: true,
+        blocked: 1,
         quantum: 5,
         ..Thread::default()
     };
@@ -141,7 +141,7 @@ fn changes_that_stay_sound() {
         }),
         ("nothing runnable", |s| {
             for i in 0..5 {
-                s.threads[i].blocked = true;
+                s.threads[i].blocked = 1;
             }
             s.threads[2].capacity += 4;
             s.threads[2].used = 0;
@@ -222,8 +222,11 @@ fn changes_that_make_it_unsound() {
             list(s, 20, &[]);
         }),
         ("blocked in a list", |s| list(s, 3, &[6])),
-        ("blocked by flag only", |s| s.threads[0].blocked = true),
-        ("runnable by flag only", |s| s.threads[6].blocked = false),
+        ("blocked by flag only", |s| s.threads[0].blocked = 1),
+        ("runnable by flag only", |s| s.threads[6].blocked = 0),
+        ("runnable, blocked 2", |s| s.threads[0].blocked = 2),
+        ("blocked, blocked 3", |s| s.threads[6].blocked = 3),
+        ("blocked 255", |s| s.threads[6].blocked = 255),
         ("member at N", |s| list(s, 10, &[1, 0, 8])),
         ("member 255", |s| list(s, 10, &[1, 0, 255])),
         ("length 33", |s| s.lists[9].length = 33),
@@ -324,7 +327,8 @@ fn changes_that_make_it_unsound() {
         ("due of RR", |s| s.threads[1].dues[7] = 1),
         ("amount of RR", |s| s.threads[1].amounts[0] = 1),
         ("thread past N", |s| s.threads[8].parameters.priority = 1),
-        ("blocked past N", |s| s.threads[31].blocked = true),
+        ("blocked past N", |s| s.threads[31].blocked = 1),
+        ("blocked 2 past N", |s| s.threads[31].blocked = 2),
         ("total past N", |s| {
             s.threads[31].total = 1;
             s.idle -= 1;
