@@ -274,9 +274,16 @@ fn number(word: &str) -> usize {
 
 // ------------------------------------------------------------------ summary
 
-struct Row {
+/// Situations of one sort, and how often each came up.
+pub struct Row {
     what: &'static str,
     counts: Vec<u64>,
+}
+
+/// Rows, and the sorts of cases that have to be run for all of their situations to come up.
+pub struct Group {
+    pub sorts: &'static [&'static str],
+    pub rows: Vec<Row>,
 }
 
 fn row<'a>(what: &'static str, counts: impl IntoIterator<Item = &'a u64>) -> Row {
@@ -288,7 +295,7 @@ fn row<'a>(what: &'static str, counts: impl IntoIterator<Item = &'a u64>) -> Row
 
 impl Row {
     /// Prints the row; whether each of its situations came up.
-    fn print(&self) -> bool {
+    pub fn print(&self) -> bool {
         let all = self.counts.len();
         let covered = self.counts.iter().filter(|n| **n > 0).count();
         let least = self.counts.iter().min().unwrap_or(&0);
@@ -400,13 +407,12 @@ impl Coverage {
         ]
     }
 
-    /// Prints the summary; whether every situation came up.
-    pub fn print(&self) -> bool {
-        println!("covered: how many situations, and how often the rarest of them");
-        let mut complete = true;
-        for row in self.event_rows().iter().chain(&self.file_rows()) {
-            complete &= row.print();
-        }
-        complete
+    pub fn groups(&self) -> Vec<Group> {
+        let mut rows = self.event_rows();
+        rows.extend(self.file_rows());
+        vec![Group {
+            sorts: &["events", "files", "singles"],
+            rows,
+        }]
     }
 }
