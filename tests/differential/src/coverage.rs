@@ -42,6 +42,15 @@ impl Tally {
     }
 }
 
+/// By place and byte: an array of 256 has no default of its own.
+pub struct Bytes([[u64; 256]; 3]);
+
+impl Default for Bytes {
+    fn default() -> Bytes {
+        Bytes([[0; 256]; 3])
+    }
+}
+
 #[derive(Default)]
 pub struct Coverage {
     pub openings: Tally,
@@ -70,6 +79,8 @@ pub struct Coverage {
     moved: [[u64; STANDINGS]; 3],
     /// Runnable, blocked; from a policy to a policy.
     set: [[[u64; POLICIES]; POLICIES]; 2],
+    /// Past N, of a runnable thread, of a blocked one; the byte handed in as blocked.
+    bytes: Bytes,
     listed_n: [u64; THREADS],
     listed_pending: [u64; PENDING + 1],
     listed_moments: [u64; MOMENT_DIGITS],
@@ -235,6 +246,20 @@ fn ends(t: &Thread, ticks: u64) -> bool {
         RR => t.quantum == ticks,
         SPORADIC => model::upper(t) && t.capacity == ticks,
         _ => false,
+    }
+}
+
+impl Coverage {
+    /// A byte as `blocked` of a place, past N or of a thread that was blocked or not. It counts only
+    /// with the answer that it has to have.
+    pub fn blocked(&mut self, past: bool, was: u8, byte: u8, a: &Answer) {
+        let place = if past { 0 } else { 1 + was as usize };
+        let status = if byte == was {
+            status::ACCEPTED
+        } else {
+            status::UNSOUND
+        };
+        self.bytes.0[place][byte as usize] += (a.status == status) as u64;
     }
 }
 
@@ -410,9 +435,19 @@ impl Coverage {
     pub fn groups(&self) -> Vec<Group> {
         let mut rows = self.event_rows();
         rows.extend(self.file_rows());
-        vec![Group {
-            sorts: &["events", "files", "singles"],
-            rows,
-        }]
+        let bytes = row(
+            "each byte as blocked: past N, of a runnable thread, of a blocked one",
+            self.bytes.0.as_flattened(),
+        );
+        vec![
+            Group {
+                sorts: &["events", "files", "singles"],
+                rows,
+            },
+            Group {
+                sorts: &["blocked"],
+                rows: vec![bytes],
+            },
+        ]
     }
 }

@@ -198,6 +198,14 @@ fn state(r: &mut Random, aim: Aim) -> State {
     s
 }
 
+fn same_soundness(case: &Case, s: &State, t: &board::State) {
+    let (a, b) = (model::sound(s), board::sound(t));
+    if a as u8 != b {
+        let detail = format!("model {a} code {b} of {s:?}");
+        case.differ("soundness", detail);
+    }
+}
+
 /// Single events from made-up states, and the soundness of these.
 pub fn singles(count: u64, seed: u64, seen: &mut Coverage) {
     let mut tally = Tally::default();
@@ -206,14 +214,35 @@ pub fn singles(count: u64, seed: u64, seen: &mut Coverage) {
         let aim = r.aim();
         let mut s = state(r, aim);
         let mut t = board::State::from(&s);
-        let (a, b) = (model::sound(&s), board::sound(&t));
-        if a as u8 != b {
-            let detail = format!("model {a} code {b} of {s:?}");
-            case.differ("soundness", detail);
-        }
+        same_soundness(&case, &s, &t);
         let e = r.aimed_event(&s, aim, 25);
         let a = both(&case, "a single event", &mut s, &mut t, &e, seen);
         tally.add(a.status);
     }
     tally.print("single events");
+}
+
+// ----------------------------------------------------- every byte as blocked
+
+/// Sound states in which each place in turn holds each byte as `blocked`.
+pub fn blocked(count: u64, seed: u64, seen: &mut Coverage) {
+    for case in cases("blocked", seed).take(count as usize) {
+        let r = &mut case.random();
+        let given = r.sound_state();
+        let e = Event {
+            time: given.now,
+            ..Event::default()
+        };
+        for i in 0..THREADS {
+            for byte in 0..=u8::MAX {
+                let mut s = given;
+                s.threads[i].blocked = byte;
+                let mut t = board::State::from(&s);
+                same_soundness(&case, &s, &t);
+                let a = both(&case, "a byte as blocked", &mut s, &mut t, &e, seen);
+                let past = i >= given.n as usize;
+                seen.blocked(past, given.threads[i].blocked, byte, &a);
+            }
+        }
+    }
 }

@@ -34,6 +34,11 @@ const SORTS: &[Sort] = &[
         short: 30_000,
         run: events::singles,
     },
+    Sort {
+        option: "blocked",
+        short: 6,
+        run: events::blocked,
+    },
 ];
 
 fn main() {

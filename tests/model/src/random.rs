@@ -445,7 +445,7 @@ impl Random {
             4 => s.word ^= 1 << p,
             5 => s.word = odd as u32,
             6..=8 => self.damage_parameters(&mut t.parameters),
-            9 => t.blocked ^= 1,
+            9 => t.blocked ^= self.pick(&[1, 1, odd]) as u8,
             10 => nudge8(&mut t.pending),
             11 => nudge(&mut t.total),
             12 => nudge(&mut t.quantum),

@@ -1,0 +1,92 @@
+/* Every byte as `blocked` of every place of a state, handed in from C: a thread is blocked (1) or runnable (0), any other byte makes
+   the state unsound, and a place past N holds 0. The declarations are those of crates/board and of the structs that it names. */
+#include <stdint.h>
+#include <stdio.h>
+#include <string.h>
+
+enum { THREADS = 32, IN_USE = 20, ENTRIES = 8, ROW = 33 };
+
+struct parameters { uint8_t policy, priority, low, max_repl; uint32_t flag; uint64_t budget, period; };
+struct event { uint64_t time; uint8_t kind, thread; struct parameters parameters; };
+struct header { uint32_t n; uint64_t start; };
+struct server { uint64_t capacity, used, activation; };
+struct thread { struct parameters parameters; uint8_t blocked; uint64_t total, left; struct server server; };
+struct state {
+    struct header header;
+    uint64_t now, idle;
+    uint32_t word;
+    struct thread threads[THREADS];
+    uint8_t counts[THREADS];
+    uint64_t dues[THREADS * ENTRIES], amounts[THREADS * ENTRIES];
+    uint8_t lists[THREADS * ROW];
+};
+struct reply { uint8_t status, running; uint64_t next; };
+struct answer { uint8_t status, running; uint64_t next; struct state state; };
+struct table { struct parameters threads[THREADS]; };
+
+struct reply thawonlai_event(struct state *state, struct event e);
+struct answer thawonlai_open(uint64_t start, uint32_t n, struct table table);
+uint8_t thawonlai_sound(struct state s);
+
+/* Threads of the three policies in turn, by threes runnable and blocked. */
+static struct table a_table(void) {
+    struct table t;
+    memset(&t, 0, sizeof t);
+    for (int i = 0; i < IN_USE; i++) {
+        struct parameters *p = &t.threads[i];
+        p->policy = i % 3;
+        p->priority = 2 + i % 4;
+        p->flag = i / 3 % 2 == 0;
+        p->low = p->policy == 2 ? 1 : 0;
+        p->max_repl = p->policy == 2 ? 2 : 0;
+        p->budget = p->policy == 0 ? 0 : 10;
+        p->period = p->policy == 2 ? 40 : 0;
+    }
+    return t;
+}
+
+static int same_thread(const struct thread *a, const struct thread *b) {
+    const struct parameters *p = &a->parameters, *q = &b->parameters;
+    return p->policy == q->policy && p->priority == q->priority && p->low == q->low && p->max_repl == q->max_repl && p->flag == q->flag
+        && p->budget == q->budget && p->period == q->period && a->blocked == b->blocked && a->total == b->total && a->left == b->left
+        && a->server.capacity == b->server.capacity && a->server.used == b->server.used && a->server.activation == b->server.activation;
+}
+
+/* Field by field: the bytes between fields may differ. */
+static int same(const struct state *a, const struct state *b) {
+    int threads = 1;
+    for (int i = 0; i < THREADS; i++)
+        threads = threads && same_thread(&a->threads[i], &b->threads[i]);
+    return threads && a->header.n == b->header.n && a->header.start == b->header.start && a->now == b->now && a->idle == b->idle
+        && a->word == b->word && !memcmp(a->counts, b->counts, sizeof a->counts) && !memcmp(a->dues, b->dues, sizeof a->dues)
+        && !memcmp(a->amounts, b->amounts, sizeof a->amounts) && !memcmp(a->lists, b->lists, sizeof a->lists);
+}
+
+int main(void) {
+    struct answer opened = thawonlai_open(7, IN_USE, a_table());
+    if (opened.status != 0) {
+        printf("tests/blocked: opening is refused with %d\n", opened.status);
+        return 1;
+    }
+    int wrong = 0;
+    for (int i = 0; i < THREADS; i++) {
+        for (int byte = 0; byte < 256; byte++) {
+            int sound = byte == (i < IN_USE && i / 3 % 2 != 0);
+            struct state s = opened.state;
+            s.threads[i].blocked = byte;
+            struct state given = s;
+            int found = thawonlai_sound(s);
+            struct event clock = { .time = s.now };
+            struct reply r = thawonlai_event(&s, clock);
+            int replied = sound ? r.status == 0 && r.running == opened.running && r.next == opened.next
+                                : r.status == 9 && r.running == 255 && r.next == 0;
+            if (found != sound || !replied || !same(&s, &given)) {
+                if (wrong++ < 5)
+                    printf("tests/blocked: byte %d of thread %d: sound %d, status %d running %d next %llu%s\n", byte, i, found, r.status,
+                           r.running, (unsigned long long)r.next, same(&s, &given) ? "" : ", another state");
+            }
+        }
+    }
+    printf("tests/blocked: %d of %d bytes answered wrongly\n", wrong, THREADS * 256);
+    return wrong != 0;
+}
