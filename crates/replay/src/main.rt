@@ -1,83 +1,42 @@
-// Writes the listing of a trace: of the file that the argument names, or of the standard input where there is none. What can't be
-// opened or read is named on the standard error, and then nothing is written to the standard output.
-ghost use Rattle.io.specs.Counts.{Counts};
-use libc::STDERR_FILENO;
-use libc::STDIN_FILENO;
+// Writes the listing of a trace, and says how it ended: done, refused where the listing is the line of a refusal, or failed where the
+// trace can't be read or the listing can't be written.
+ghost use mathlib.Core.Path.{_≡_};
+ghost use mathlib.Core.Bool.{cond};
+ghost use lib.Dec.{eqb};
+ghost use Rattle.replay_steps.specs.FileSteps.{begunOf};
 use libc::STDOUT_FILENO;
 
-// Whether an input was read without a failure, and how many bytes of it.
-struct Input {
-    whole: bool,
-    length: usize,
-}
-
-// Reads an input to its end, or until the buffer is full. Each turn but the last reads at least one byte.
-fn read_all(fd: i32, buffer: &mut [u8]) -> Input
-    ensures { λ r. ⌜ Counts (r .length) (now (buffer .exit)) ⌝ }
+// How the replay of a file ends: refused where the reader or the opening refuses it, and so its listing is that line (01 Replay 8).
+fn end_of(file: &[u8]) -> u8
+    ensures { λ r. ⌜ r ≡ cond (eqb (begunOf (now (file .entry)) .status) 0) 0 1 ⌝ }
 {
-    let mut length = 0;
-    let mut turns = buffer.len();
-    while 0 < turns {
-        turns -= 1;
-        let got = libc::read(fd, &mut buffer[length..]);
-        if got < 0 {
-            return Input {
-                whole: false,
-                length: 0,
-            };
-        }
-        if got == 0 {
-            return Input {
-                whole: true,
-                length,
-            };
-        }
-        length += io::count(got, &buffer[length..]);
+    let begun = replay_steps::begin(file);
+    if begun.status == 0 {
+        return command::DONE;
     }
-    Input {
-        whole: true,
-        length,
-    }
+    command::REFUSED
 }
 
-// The listing of an input. A trace has at most 60,800 bytes: of a longer file the first 65,536 are refused as the whole of it is.
-fn list(fd: i32, name: &[u8]) {
+// Writes the listing of a file.
+fn list(file: &[u8]) -> u8 {
+    let mut out = io::large_buffer();
+    let listed = listing::listing(file, &mut out);
+    let length = listed.length;
+    if !io::write_all(STDOUT_FILENO, &out[..length]) {
+        os::fail(b"standard output");
+        return command::FAILED;
+    }
+    end_of(file)
+}
+
+// A trace has at most 60,800 bytes: of a longer file the first 65,536 are refused as the whole of it is.
+fn main() {
     let mut file = io::large_buffer();
-    let input = read_all(fd, &mut file);
+    let input = command::read_input(1, &mut file);
     if !input.whole {
-        os::fail(name);
+        command::end(command::FAILED);
         return;
     }
     let length = input.length;
-    let mut out = io::large_buffer();
-    let listed = listing::listing(&file[..length], &mut out);
-    let written = listed.length;
-    if !io::write_all(STDOUT_FILENO, &out[..written]) {
-        os::fail(b"standard output");
-    }
-}
-
-fn main() {
-    let n = os::arg_count();
-    if n < 2 {
-        list(STDIN_FILENO, b"standard input");
-        return;
-    }
-    if 2 < n {
-        io::write_all(STDERR_FILENO, b"usage: replay [FILE]\n");
-        return;
-    }
-    let mut name = io::buffer();
-    let length = os::arg(1, &mut name);
-    if os::errno() != 0 {
-        os::fail(b"argument");
-        return;
-    }
-    let fd = os::open_read(&name[..length]);
-    if fd < 0 {
-        os::fail(&name[..length]);
-        return;
-    }
-    list(fd, &name[..length]);
-    libc::close(fd);
+    command::end(list(&file[..length]));
 }

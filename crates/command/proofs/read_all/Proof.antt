@@ -1,4 +1,4 @@
--- `replay::read_all` meets its contract: what was read so far is within the buffer.
+-- `command::read_all` meets its contract: what was read so far is within the buffer.
 use Prim.Native.Nat.{ℕ, _-_, _≤_}
 use mathlib.Core.List.{List}
 use mathlib.Core.Path.{_≡_, refl, sym, _∙_}
@@ -8,10 +8,10 @@ use lib.Seq.{length-take-le}
 use borrow.Author.Needs.{needs}
 use borrow.Rule.Slice.PartMut.{putMid, same-len-mid, mid-len}
 use Rattle.io.specs.Counts.{Counts}
-use Rattle.replay.proofs.read_all.Statement.{statement}
-use Rattle.replay.proofs.read_all.Tie as tie
-use Rattle.replay.proofs.read_all.Reads as reads
-use Rattle.replay.proofs.read_all.Lts as lts
+use Rattle.command.proofs.read_all.Statement.{statement}
+use Rattle.command.proofs.read_all.Tie as tie
+use Rattle.command.proofs.read_all.Reads as reads
+use Rattle.command.proofs.read_all.Lts as lts
 use Rattle.io.proofs.count.Reads as count-reads
 use Rattle.libc.proofs.read.Reads as read-reads
 
