@@ -60,7 +60,7 @@ module _ (P : ℕ → List ℕ → Type 0) (one : (n : ℕ) → n < 10 → P n (
   below zero n h = absurd (omega arith)
   below (suc k) n h = by-size n (λ l. rw (small n l) (one n l)) (λ l. rw (large n l) (more n l (below k (n / 10) (omega arith))))
 
-  every : (n : ℕ) → P n (decimal n)
+  pub every : (n : ℕ) → P n (decimal n)
   every n = below (suc n) n (omega arith)
 
 -- at most k digits below 10 ^ k
@@ -75,7 +75,7 @@ digits-fit (suc (suc k)) n p h =
     (λ l. omega (arith, ap length (small n l)))
     (λ l. omega (arith, longer n l, digits-fit (suc k) (n / 10) (omega arith) (tenth (suc k) n h)))
 
-read-more : (a : ℕ) (ds : List ℕ) (d : ℕ) → readFrom a (ds ++ (d ∷ [])) ≡ readFrom a ds * 10 + (d - 48)
+pub read-more : (a : ℕ) (ds : List ℕ) (d : ℕ) → readFrom a (ds ++ (d ∷ [])) ≡ readFrom a ds * 10 + (d - 48)
 unfolding readFrom
 read-more a [] d = refl
 read-more a (x ∷ ds) d = read-more (a * 10 + (x - 48)) ds d

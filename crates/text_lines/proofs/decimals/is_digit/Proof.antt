@@ -1,0 +1,20 @@
+-- `text_lines::is_digit` meets its contract.
+use mathlib.Core.Bool.{true, false}
+use mathlib.Core.Path.{_≡_, refl, sym, _∙_}
+use lib.Dec.{leb}
+use borrow.Author.Tests.{lt-leb, le-leb}
+use Rattle.records.specs.Tests.{all}
+use Rattle.records.proofs.TestLaws.{all-one}
+use Rattle.text_lines.proofs.decimals.is_digit.Statement.{statement}
+use Rattle.text_lines.proofs.decimals.is_digit.Tie as tie
+
+returns : tie.Need-returns
+unfolding all
+returns c = rw (lt-leb 48 _ (c .if1 .taken))
+
+returns-2 : tie.Need-returns-2
+unfolding all
+returns-2 c = rw (le-leb 48 _ (c .if1 .left)) (sym (all-one _))
+
+pub is-digit-spec : {M : Type 1} → statement M
+is-digit-spec = tie.close (tie.spec returns returns-2)
