@@ -396,7 +396,7 @@ none-found most end s at = go (startsWithNumber most end (drop at s)) refl
     go false e h = e
 
 -- the byte after the number i
-end-is : (ms : List ℕ) (i : ℕ) → i < length ms → endByte (eqb (i + 1) (length ms)) ≡ endOf (drop (i + 1) ms)
+pub end-is : (ms : List ℕ) (i : ℕ) → i < length ms → endByte (eqb (i + 1) (length ms)) ≡ endOf (drop (i + 1) ms)
 end-is ms i h = go (drop (i + 1) ms) refl
   where
     go : (r : List ℕ) → drop (i + 1) ms ≡ r → endByte (eqb (i + 1) (length ms)) ≡ endOf r

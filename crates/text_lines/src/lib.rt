@@ -4,6 +4,7 @@ mod lines;
 
 pub use decimals::decimal_at;
 pub use decimals::numbers_at;
+pub use decimals::put_numbers;
 pub use lines::first_difference;
 pub use lines::line_end;
 pub use lines::starts_with;
