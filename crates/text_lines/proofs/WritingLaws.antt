@@ -1,5 +1,5 @@
 -- The text of numbers, one number after another.
-use Prim.Native.Nat.{ℕ, zero, suc, _+_, _≤_, _<_}
+use Prim.Native.Nat.{ℕ, zero, suc, _+_, _*_, _^_, _≤_, _<_}
 use mathlib.Core.List.{List, [], _∷_, _++_, append-assoc, append-nil}
 use mathlib.Core.Path.{_≡_, refl, sym, ap, _∙_, subst}
 use native.Mathlib.Omega.{arith}
@@ -7,6 +7,7 @@ use lib.Dec.{eqb}
 use lib.ListN.{length, drop, getD, length-append, drop-of-length-le}
 use lib.Seq.{drop-cons}
 use Rattle.text.specs.Decimal.{decimal}
+use Rattle.text.proofs.DecimalLaws.{digits-fit}
 use Rattle.text.specs.Placed.{Put}
 use Rattle.text.proofs.PlacedLaws.{then, length-put}
 use Rattle.text_lines.specs.Numbers.{endByte, endOf, numbersText}
@@ -33,8 +34,7 @@ module _ (ns : List ℕ) (i : ℕ) where
   pub front-room : i < length ns → length (front ns i) + length (decimal (getD ns i 0)) + 1 ≤ length (numbersText ns)
   unfolding front
   front-room h =
-      omega
-      (
+      omega (
         arith,
         simp length-append at (ap length (front-split ns (suc i) (omega arith))),
       )
@@ -52,3 +52,12 @@ module _ (ns : List ℕ) (i : ℕ) where
       let f : Put o₂ digits (endOf (drop (suc i) ns) ∷ []) o₃ next =
       subst (λ (x : ℕ). Put o₂ digits (x ∷ []) o₃ next) (q ∙ end-is ns i h ∙ ap (λ (k : ℕ). endOf (drop k ns)) z) e in
       rw z (then (omega arith) a (then (omega (arith, a .next)) b f))
+
+-- a number of 64 bits has at most 20 digits, so that with its end byte it takes at most 21
+pub numbers-short : (ns : List ℕ) → ((i : ℕ) → getD ns i 0 < 2 ^ 64) → length (numbersText ns) ≤ 21 * length ns
+unfolding numbersText
+numbers-short [] h = omega arith
+numbers-short (n ∷ ns) h =
+    let d : length (decimal n) ≤ 20 = digits-fit 20 n (omega arith) (omega (arith, h 0)) in
+    let r = numbers-short ns (λ i. h (suc i)) in
+    rw length-append (omega arith)
