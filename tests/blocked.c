@@ -1,32 +1,10 @@
 /* Every byte as `blocked` of every place of a state, handed in from C: a thread is blocked (1) or runnable (0), any other byte makes
-   the state unsound, and a place past N holds 0. The declarations are those of crates/board and of the structs that it names. */
-#include <stdint.h>
+   the state unsound, and a place past N holds 0. */
+#include "thawonlai.h"
 #include <stdio.h>
 #include <string.h>
 
-enum { THREADS = 32, IN_USE = 20, ENTRIES = 8, ROW = 33 };
-
-struct parameters { uint8_t policy, priority, low, max_repl; uint32_t flag; uint64_t budget, period; };
-struct event { uint64_t time; uint8_t kind, thread; struct parameters parameters; };
-struct header { uint32_t n; uint64_t start; };
-struct server { uint64_t capacity, used, activation; };
-struct thread { struct parameters parameters; uint8_t blocked; uint64_t total, left; struct server server; };
-struct state {
-    struct header header;
-    uint64_t now, idle;
-    uint32_t word;
-    struct thread threads[THREADS];
-    uint8_t counts[THREADS];
-    uint64_t dues[THREADS * ENTRIES], amounts[THREADS * ENTRIES];
-    uint8_t lists[THREADS * ROW];
-};
-struct reply { uint8_t status, running; uint64_t next; };
-struct answer { uint8_t status, running; uint64_t next; struct state state; };
-struct table { struct parameters threads[THREADS]; };
-
-struct reply thawonlai_event(struct state *state, struct event e);
-struct answer thawonlai_open(uint64_t start, uint32_t n, struct table table);
-uint8_t thawonlai_sound(struct state s);
+enum { IN_USE = 20 };
 
 /* Threads of the three policies in turn, by threes runnable and blocked. */
 static struct table a_table(void) {

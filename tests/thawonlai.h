@@ -1,0 +1,37 @@
+/* What the static libraries export, for C: the functions of crates/board and crates/board_trace, and the structs that they name. A slice
+   is a pointer and then a length. */
+#ifndef THAWONLAI_H
+#define THAWONLAI_H
+#include <stddef.h>
+#include <stdint.h>
+
+enum { THREADS = 32, ENTRIES = 8, ROW = 33 };
+
+struct parameters { uint8_t policy, priority, low, max_repl; uint32_t flag; uint64_t budget, period; };
+struct event { uint64_t time; uint8_t kind, thread; struct parameters parameters; };
+struct header { uint32_t n; uint64_t start; };
+struct server { uint64_t capacity, used, activation; };
+struct thread { struct parameters parameters; uint8_t blocked; uint64_t total, left; struct server server; };
+struct state {
+    struct header header;
+    uint64_t now, idle;
+    uint32_t word;
+    struct thread threads[THREADS];
+    uint8_t counts[THREADS];
+    uint64_t dues[THREADS * ENTRIES], amounts[THREADS * ENTRIES];
+    uint8_t lists[THREADS * ROW];
+};
+struct reply { uint8_t status, running; uint64_t next; };
+struct answer { uint8_t status, running; uint64_t next; struct state state; };
+struct table { struct parameters threads[THREADS]; };
+struct found { uint8_t status; uint32_t n; uint64_t start; size_t count; };
+struct written { uint8_t status; size_t total; };
+struct listed { uint8_t status; size_t length; };
+
+struct reply thawonlai_event(struct state *state, struct event e);
+struct answer thawonlai_open(uint64_t start, uint32_t n, struct table table);
+uint8_t thawonlai_sound(struct state s);
+struct found thawonlai_read(const uint8_t *file, size_t length);
+struct written thawonlai_copy(const uint8_t *file, size_t length, uint8_t *out, size_t room);
+struct listed thawonlai_listing(const uint8_t *file, size_t length, uint8_t *out, size_t room);
+#endif
