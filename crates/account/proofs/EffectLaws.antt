@@ -1,65 +1,85 @@
--- The rules without the entries are the rules, whatever is pending.
+-- The rules by cases, and that each has the room that it needs.
 use Prim.Native.Nat.{ℕ, _≤_, _<_}
-use mathlib.Core.Bool.{Bool, true, false, cond, _&&_}
-use mathlib.Core.Path.{_≡_, refl, sym, ap}
-use lib.Dec.{ltb, eqb}
+use mathlib.Core.Bool.{Bool, true, false, not, _&&_}
+use mathlib.Core.Path.{_≡_, refl, sym}
+use lib.Dec.{leb, eqb}
 use native.Mathlib.Omega.{arith}
-use borrow.Author.Tests.{eqb-false, ne-eqb}
-use Rattle.records.proofs.TestLaws.{cond-elim, cond-false}
+use borrow.Author.Tests.{eqb-true, eqb-false, leb-true, leb-false, lt-ltb}
+use Rattle.records.proofs.TestLaws.{cond-elim, false-true}
 use Rattle.records.specs.declared.Parameters.{Parameters}
 use Rattle.account.specs.declared.Server.{Server}
-use Rattle.account.specs.declared.Pending.{Pending}
-use Rattle.account.specs.declared.Account.{Account}
-use Rattle.account.specs.declared.Place.the-variants.{Stays, Low, LowThenUpper}
+use Rattle.account.specs.declared.Place.the-variants.{Low, LowThenUpper, Upper}
 use Rattle.account.specs.declared.Effect.{Effect}
-use Rattle.account.specs.Rules.{cleared, dueOf, dueNow, atOnce, madePending, withEntry, withAdded, replenished, scheduled, activatedServer, activated, outcome, limitReached, raised, effect, scheduleEffect, limitEffect, raiseEffect}
-use Rattle.account.proofs.RuleLaws.{made}
+use Rattle.account.specs.Account.{atUpper}
+use Rattle.account.specs.Rules.{replenished, dueOf, cleared, activated, Room, unchanged, pendingLater, backAtOnce, scheduled, Schedulable, sent, atLimit, limitEffect, blockEffect, wakeEffect, firstBack, returnEffect}
 
--- an amount that is not 0 becomes pending
-pub added-some : (due amount : ℕ) (q : Pending) → 0 < amount → withEntry due amount q ≡ withAdded due amount q
-added-some due amount q h = sym (cond-false (eqb amount 0) q (withEntry due amount q) (ne-eqb amount 0 (λ e. omega arith)))
+-- an effect that neither takes an entry nor adds one
+adds-none : (count : ℕ) → Room false 0 count
+adds-none count = (λ q. false-true q, λ q h. absurd (omega arith))
 
 module _ (now : ℕ) (p : Parameters) (s : Server) where
-  -- no more becomes pending than was charged
-  pub schedule-amount : scheduleEffect now p s .amount ≤ s .used
-  unfolding scheduleEffect
-  schedule-amount =
-      cond-elim (λ (e : Effect). e .amount ≤ s .used) (eqb (s .used) 0) _ _ (λ a. omega arith)
-      (λ a. cond-elim (λ (e : Effect). e .amount ≤ s .used) (dueNow now p s) _ _ (λ d. omega arith) (λ d. omega arith))
+  pub schedule-elim : (P : Effect → Type 0) → (s .used ≡ 0 → P (unchanged s)) → (0 < s .used → dueOf p s ≤ now → P (backAtOnce p s))
+      → (0 < s .used → now < dueOf p s → P (pendingLater p s)) → P (scheduled now p s)
+  unfolding scheduled
+  schedule-elim P f g h =
+      cond-elim P (eqb (s .used) 0) _ _ (λ e. f (eqb-true (s .used) 0 e))
+      (λ e. let u : 0 < s .used = omega (arith, eqb-false (s .used) 0 e) in
+      cond-elim P (leb (dueOf p s) now) _ _ (λ d. g u (leb-true (dueOf p s) now d)) (λ d. h u (leb-false (dueOf p s) now d)))
 
-  pub limit-amount : limitEffect now p s .amount ≤ s .used
-  unfolding limitEffect
-  limit-amount = cond-elim (λ (e : Effect). e .amount ≤ s .used) (ltb 0 (s .used) && dueNow now p s) _ _ (λ a. schedule-amount) (λ a. schedule-amount)
+  pub schedule-room : (count : ℕ) → Schedulable p s count → Room (scheduled now p s .first) (scheduled now p s .amount) count
+  schedule-room count h =
+      schedule-elim (λ (e : Effect). Room (e .first) (e .amount) count) (λ u. adds-none count) (λ u d. adds-none count)
+      (λ u d. (λ q. false-true q, λ q v. h .1 u))
 
-  module _ (q : Pending) where
-    -- the account after an effect
-    abbrev pub after : Effect → Account
-    after e = made (e .server) (withAdded (e .due) (e .amount) q)
+  -- where U comes back at once the thread goes on to upper, else it stays at low
+  pub at-limit-elim : (P : Effect → Type 0) → (s .used ≡ 0 → P (sent Low s (unchanged s))) → (0 < s .used → dueOf p s ≤ now → P (sent LowThenUpper (activated now (backAtOnce p s .server)) (backAtOnce p s)))
+      → (0 < s .used → now < dueOf p s → P (sent Low (cleared s) (pendingLater p s))) → P (atLimit now (scheduled now p s))
+  at-limit-elim P f g h = schedule-elim (λ (e : Effect). P (atLimit now e)) f (λ u d. rw (lt-ltb 0 (s .used) u) (g u d)) h
 
-    pub schedule-is : scheduled now p (made s q) ≡ after (scheduleEffect now p s)
-    unfolding scheduled scheduleEffect
-    schedule-is = go (eqb (s .used) 0) refl (dueNow now p s)
+  module _ (b : Bool) where
+    pub limit-elim : (P : Effect → Type 0) → P (unchanged s) → P (atLimit now (scheduled now p s)) → P (limitEffect now b p s)
+    unfolding limitEffect
+    limit-elim P f g = cond-elim P (not b && eqb (s .capacity) 0) _ _ (λ e. g) (λ e. f)
+
+    -- a limit takes no entry
+    pub limit-keeps : limitEffect now b p s .first ≡ false
+    limit-keeps = limit-elim (λ (e : Effect). e .first ≡ false) refl (at-limit-elim (λ (e : Effect). e .first ≡ false) (λ u. refl) (λ u d. refl) (λ u d. refl))
+
+    pub limit-room : (count : ℕ) → Schedulable p s count → Room (limitEffect now b p s .first) (limitEffect now b p s .amount) count
+    limit-room count h =
+        let R : Effect → Type 0 = λ e. Room (e .first) (e .amount) count in
+        limit-elim R (adds-none count) (at-limit-elim R (λ u. adds-none count) (λ u d. adds-none count) (λ u d. (λ q. false-true q, λ q v. h .1 u)))
+
+    pub block-room : (count : ℕ) → Schedulable p s count → Room (blockEffect now b p s .first) (blockEffect now b p s .amount) count
+    block-room count h = cond-elim (λ (e : Effect). Room (e .first) (e .amount) count) b _ _ (λ e. adds-none count) (λ e. schedule-room count h)
+
+    pub wake-room : (count : ℕ) → Room (wakeEffect now b p count s .first) (wakeEffect now b p count s .amount) count
+    wake-room count =
+        let R : Effect → Type 0 = λ e. Room (e .first) (e .amount) count in
+        cond-elim R b _ _ (λ e. cond-elim R (atUpper p (s .capacity) count) _ _ (λ d. adds-none count) (λ d. adds-none count)) (λ e. adds-none count)
+
+    pub return-elim : (count amount : ℕ) (P : Effect → Type 0) → (count ≡ 0 → P (unchanged s))
+        → (0 < count → (b ≡ false → atUpper p (s .capacity) count ≡ true) → P (firstBack p amount s))
+        → (0 < count → b ≡ false → atUpper p (s .capacity) count ≡ false → P (sent Upper (activated now (replenished amount p s)) (firstBack p amount s))) → P (returnEffect now b p count amount s)
+    unfolding returnEffect
+    return-elim count amount P f g h =
+        cond-elim P (eqb count 0) _ _ (λ e. f (eqb-true count 0 e))
+        (λ e. let c : 0 < count = omega (arith, eqb-false count 0 e) in
+        cond-elim P (not b && not (atUpper p (s .capacity) count)) _ _ (λ q. both b (atUpper p (s .capacity) count) q (h c)) (λ q. g c (other b (atUpper p (s .capacity) count) q)))
       where
-        go : (a : Bool) → eqb (s .used) 0 ≡ a → (d : Bool)
-            → cond a (made s q) (cond d (atOnce p (made s q)) (madePending p (made s q)))
-            ≡ after (cond a (effect s Stays 0 0) (cond d (effect (replenished (s .used) p (cleared s)) Stays 0 0) (effect (cleared s) Stays (dueOf p s) (s .used))))
-        go true e d = refl
-        go false e true = refl
-        go false e false = ap (made (cleared s)) (added-some (dueOf p s) (s .used) q (omega (arith, eqb-false (s .used) 0 e)))
+        other : (x y : Bool) → (not x && not y) ≡ false → x ≡ false → y ≡ true
+        other true y q k = false-true (sym k)
+        other false true q k = refl
+        other false false q k = sym q
 
-    pub limit-is : limitReached now false p (made s q) ≡ outcome (after (limitEffect now p s)) (limitEffect now p s .place)
-    unfolding limitReached limitEffect
-    limit-is = go (scheduleEffect now p s) schedule-is (ltb 0 (s .used) && dueNow now p s)
+        both : (x y : Bool) → (not x && not y) ≡ true → {A : Type 0} → (x ≡ false → y ≡ false → A) → A
+        both true y q k = false-true q
+        both false true q k = false-true q
+        both false false q k = k refl refl
+
+    pub return-room : (count amount : ℕ) → Room (returnEffect now b p count amount s .first) (returnEffect now b p count amount s .amount) count
+    return-room count amount =
+        return-elim count amount (λ (e : Effect). Room (e .first) (e .amount) count) (λ z. adds-none count) (λ c u. takes c) (λ c u v. takes c)
       where
-        go : (e : Effect) → scheduled now p (made s q) ≡ after e → (b : Bool)
-            → cond b (outcome (activated now (scheduled now p (made s q))) LowThenUpper) (outcome (scheduled now p (made s q)) Low)
-            ≡ outcome (after (cond b (effect (activatedServer now (e .server)) LowThenUpper (e .due) (e .amount)) (effect (e .server) Low (e .due) (e .amount))))
-            (cond b (effect (activatedServer now (e .server)) LowThenUpper (e .due) (e .amount)) (effect (e .server) Low (e .due) (e .amount)) .place)
-        go e f true = ap (λ (a : Account). outcome (activated now a) LowThenUpper) f
-        go e f false = ap (λ (a : Account). outcome a Low) f
-
--- what comes back
-pub raise-is : (now : ℕ) (b up : Bool) (s : Server) (q : Pending) → raised now b up (made s q) ≡ outcome (made (raiseEffect now b up s .server) q) (raiseEffect now b up s .place)
-raise-is now true up s q = refl
-raise-is now false true s q = refl
-raise-is now false false s q = refl
+        takes : 0 < count → Room true 0 count
+        takes c = (λ q. c, λ q v. absurd (omega arith))

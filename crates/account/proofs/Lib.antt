@@ -2,6 +2,5 @@
 pub mod ChargeLaws
 pub mod EffectLaws
 pub mod EntryLaws
-pub mod RuleLaws
-pub mod SoundLaws
 pub mod ReturnLaws
+pub mod SoundLaws

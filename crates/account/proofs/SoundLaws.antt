@@ -1,25 +1,30 @@
 -- Soundness of an account as a proposition, and how the rules keep it.
 use Prim.Native.Nat.{ℕ, zero, suc, _+_, _-_, _≤_, _<_, min}
 use mathlib.Core.Bool.{Bool, true, false, cond, _&&_}
-use mathlib.Core.Path.{_≡_, refl, sym, ap, _∙_}
+use mathlib.Core.Path.{_≡_, refl, sym, ap, _∙_, subst}
 use mathlib.Core.List.{List, [], _∷_, _++_}
 use lib.ListN.{length, take, drop, getD, set, length-set, length-append}
 use lib.Seq.{take-append-le, drop-append-le, take-suc-set, drop-set-lt, drop-drop}
 use lib.Dec.{ltb, leb, eqb}
 use native.Mathlib.Numerals.{add-one}
 use native.Mathlib.Omega.{arith}
-use borrow.Author.Tests.{lt-ltb, le-ltb, ltb-true, leb-false, ne-eqb}
+use borrow.Author.Tests.{lt-ltb, le-ltb, ltb-true, leb-false, eq-eqb, ne-eqb}
 use Rattle.records.specs.declared.Parameters.{Parameters}
-use Rattle.records.proofs.TestLaws.{tests, All, all-true, true-all, false-true, zeros-drop, zeros-append, zeros-replicate, cond-elim}
+use Rattle.records.proofs.TestLaws.{tests, All, all-true, true-all, false-true, zeros-drop, zeros-append, zeros-replicate}
+use Rattle.account.specs.declared.Server.{Server}
+use Rattle.account.specs.declared.Pending.{Pending}
 use Rattle.account.specs.declared.Account.{Account}
-use Rattle.account.specs.declared.Outcome.{Outcome}
+use Rattle.account.specs.declared.Effect.{Effect}
 use Rattle.account.specs.declared.Place.{Place}
 use Rattle.account.specs.declared.Place.the-variants.{Stays, Low, LowThenUpper, Upper}
 use Rattle.account.specs.Account.{dues, amounts, isUpper, firstDue, freshAccount}
-use Rattle.account.specs.Rules.{charged, dueOf, dueNow, shifted, atOnce, madePending, scheduled, activated, limitReached, blocking, waking, firstIsDue, firstBack, allBack, returning}
+use Rattle.account.specs.Rules.{charged, dueOf, cleared, activated, withoutFirst, applied, pendingLater, backAtOnce, scheduled, limitEffect, blockEffect, wakeEffect, firstBack, firstIsDue, returnFirst}
 use Rattle.account.specs.Sound.{sum, positive, dueTests, dueEnd, numberTests, amountTests, placeTests, runsUpper, soundTests, soundAt}
 use Rattle.account.proofs.ChargeLaws.{charge-sum}
-use Rattle.account.proofs.RuleLaws.{scheduled-none, scheduled-once, scheduled-later, limit-once, limit-later, back-one, due-some, return-none, return-blocked, return-upper, return-low}
+use Rattle.account.proofs.EffectLaws.{schedule-elim, at-limit-elim, return-elim}
+
+abbrev pub made : Server → Pending → Account
+made s q = record { server = s; pending = q }
 
 -- dues are after lo, which is now in a sound account; `up`: runnable at the upper priority
 pub record AccountSound (start now lo : ℕ) (up : Bool) (p : Parameters) (a : Account) : Type 0 where
@@ -112,7 +117,7 @@ module _ (start now lo : ℕ) (p : Parameters) (a : Account) where
   -- ticks at the upper priority
   pub charge-sound : (k lo′ : ℕ) → AccountSound start now lo true p a → k ≤ a .server .capacity
       → (0 < firstDue (a .pending) → lo′ < firstDue (a .pending))
-      → AccountSound start (now + k) lo′ true p (record { server = charged k (a .server); pending = a .pending })
+      → AccountSound start (now + k) lo′ true p (made (charged k (a .server)) (a .pending))
   charge-sound k lo′ h l q =
       record {
         numbers = omega (tests, h .numbers);
@@ -138,15 +143,24 @@ module _ (start now lo : ℕ) (p : Parameters) (a : Account) where
       sooner false n = omega arith
 
   -- the activation time becomes now
-  pub activate-sound : AccountSound start now lo false p a → start ≤ now → AccountSound start now lo true p (activated now a)
+  pub activate-sound : AccountSound start now lo false p a → start ≤ now → AccountSound start now lo true p (made (activated now (a .server)) (a .pending))
   activate-sound h l = record { numbers = omega (tests, h .numbers); sums = h .sums; times = h .times; duePlaces = h .duePlaces; amountPlaces = h .amountPlaces }
 
   -- ---- U is scheduled
 
   -- it is pending
-  pub later-sound : AccountSound start now lo true p a → lo ≤ now → a .pending .count < p .«max_repl» → p .«max_repl» ≤ 8 → 0 < a .server .used
+  later-is : 0 < a .server .used
+      → applied (pendingLater p (a .server)) a
+      ≡ made (cleared (a .server)) (record {
+        count = a .pending .count + 1;
+        dues = set (a .pending .dues) (a .pending .count) (dueOf p (a .server));
+        amounts = set (a .pending .amounts) (a .pending .count) (a .server .used);
+      })
+  later-is u = simp (ne-eqb (a .server .used) 0 (λ e. omega arith))
+
+  later-sound : AccountSound start now lo true p a → lo ≤ now → a .pending .count < p .«max_repl» → p .«max_repl» ≤ 8 → 0 < a .server .used
       → now < dueOf p (a .server)
-      → AccountSound start now lo false p (madePending p a)
+      → AccountSound start now lo false p (applied (pendingLater p (a .server)) a)
   later-sound h l m m8 u d =
       let t = dueOf p (a .server) in
       let x = a .server .used in
@@ -155,7 +169,8 @@ module _ (start now lo : ℕ) (p : Parameters) (a : Account) where
       let n = a .pending .count in
       let qd : take (n + 1) (set ds n t) ≡ take n ds ++ t ∷ [] = rw add-one (take-suc-set ds n t (omega (tests, h .duePlaces .0))) in
       let qx : take (n + 1) (set xs n x) ≡ take n xs ++ x ∷ [] = rw add-one (take-suc-set xs n x (omega (tests, h .amountPlaces .0))) in
-      record {
+      rw (later-is u)
+      (record {
         numbers = omega (tests, h .numbers);
         sums = rw (qx, sum-more x (take n xs)) (omega (tests, h .sums .0), positive-more x (take n xs) u (h .sums .1));
         times =
@@ -163,7 +178,7 @@ module _ (start now lo : ℕ) (p : Parameters) (a : Account) where
             (times-more lo (a .server .activation + p .period) (now + p .period) t (take n ds) (omega arith) (omega arith) (omega (tests, h .numbers)) (h .times));
         duePlaces = kept n ds t (h .duePlaces);
         amountPlaces = kept n xs x (h .amountPlaces);
-      }
+      })
     where
       kept : (n : ℕ) (xs : List ℕ) (x : ℕ) → All (placeTests n xs) → All (placeTests (n + 1) (set xs n x))
       kept n xs x g = (
@@ -172,8 +187,7 @@ module _ (start now lo : ℕ) (p : Parameters) (a : Account) where
       )
 
   -- it comes back at once
-  pub once-sound : AccountSound start now lo true p a
-      → AccountSound start now lo false p (atOnce p a)
+  once-sound : AccountSound start now lo true p a → AccountSound start now lo false p (applied (backAtOnce p (a .server)) a)
   once-sound h =
       let e : min (a .server .capacity + a .server .used) (p .budget) + 0 ≡ a .server .capacity + a .server .used = omega (tests, h .sums .0) in
       record {
@@ -186,25 +200,26 @@ module _ (start now lo : ℕ) (p : Parameters) (a : Account) where
 
   -- whichever it is, the account is that of a thread that is blocked or low
   pub schedule-sound : (up : Bool) → AccountSound start now lo up p a → lo ≤ now → p .«max_repl» ≤ 8
-      → (up ≡ true → a .pending .count < p .«max_repl») → AccountSound start now lo false p (scheduled now p a)
-  schedule-sound up h l m8 m = go (a .server .used) refl up h m
+      → (up ≡ true → a .pending .count < p .«max_repl») → AccountSound start now lo false p (applied (scheduled now p (a .server)) a)
+  schedule-sound up h l m8 m =
+      schedule-elim now p (a .server) (λ (e : Effect). AccountSound start now lo false p (applied e a)) (λ u. lower-sound up h u) (λ u d. once-sound (upper up u h))
+      (λ u d. later-sound (upper up u h) l (m (is up u h)) m8 u d)
     where
-      go : (n : ℕ) → a .server .used ≡ n → (up : Bool) → AccountSound start now lo up p a → (up ≡ true → a .pending .count < p .«max_repl»)
-          → AccountSound start now lo false p (scheduled now p a)
-      go zero e up h m = rw (scheduled-none now p a e) (lower-sound up h e)
-      go (suc n) e false h m = absurd (omega (tests, h .numbers))
-      go (suc n) e true h m = by (dueNow now p (a .server)) refl
-        where
-          by : (b : Bool) → dueNow now p (a .server) ≡ b → AccountSound start now lo false p (scheduled now p a)
-          by true d = rw (scheduled-once now p a (omega arith) d) (once-sound h)
-          by false d = rw (scheduled-later now p a (omega arith) d) (later-sound h l (m refl) m8 (omega arith) (leb-false _ _ d))
+      -- what is charged is charged at the upper priority
+      is : (up : Bool) → 0 < a .server .used → AccountSound start now lo up p a → up ≡ true
+      is true u h = refl
+      is false u h = absurd (omega (tests, h .numbers))
+
+      upper : (up : Bool) → 0 < a .server .used → AccountSound start now lo up p a → AccountSound start now lo true p a
+      upper true u h = h
+      upper false u h = absurd (omega (tests, h .numbers))
 
 -- ---- the rules: what each leaves, and where it sends a runnable thread
 
-pub record Sent (start now lo : ℕ) (up : Bool) (p : Parameters) (x : Place) (o : Outcome) : Type 0 where
-  pub sound : AccountSound start now lo up p (o .account)
-  pub upper : isUpper p (o .account) ≡ up
-  pub place : o .place ≡ x
+pub record Sent (start now lo : ℕ) (up : Bool) (p : Parameters) (x : Place) (a : Account) (e : Effect) : Type 0 where
+  pub sound : AccountSound start now lo up p (applied e a)
+  pub upper : isUpper p (applied e a) ≡ up
+  pub place : e .place ≡ x
 
 upper-yes : (p : Parameters) (a : Account) → 0 < a .server .capacity → a .pending .count < p .«max_repl» → isUpper p a ≡ true
 upper-yes p a h l = simp (lt-ltb 0 (a .server .capacity) h, lt-ltb (a .pending .count) (p .«max_repl») l)
@@ -241,46 +256,45 @@ module _ (start now : ℕ) (p : Parameters) where
 
   module _ (lo : ℕ) (a : Account) where
     -- the limit, at its instant: a thread that was at its upper priority, with its capacity used up
-    module _ (h : AccountSound start now lo true p a) (u : 0 < a .server .used) (m : a .pending .count < p .«max_repl») where
-      pub limit-once-sound : start ≤ now → dueNow now p (a .server) ≡ true → Sent start now lo true p LowThenUpper (limitReached now false p a)
-      limit-once-sound l d =
-          rw (limit-once now p a u d, scheduled-once now p a u d)
-          (record {
-            sound = activate-sound start now lo p (atOnce p a) (once-sound start now lo p a h) l;
-            upper = upper-yes p (activated now (atOnce p a)) (omega (tests, h .sums .0)) m;
-            place = refl;
-          })
-
-      pub limit-later-sound : lo ≤ now → p .«max_repl» ≤ 8 → a .server .capacity ≡ 0 → dueNow now p (a .server) ≡ false
-          → Sent start now lo false p Low (limitReached now false p a)
-      limit-later-sound l m8 z d =
-          rw (limit-later now p a u d, scheduled-later now p a u d)
-          (record {
-            sound = later-sound start now lo p a h l m m8 u (leb-false _ _ d);
-            upper = upper-no p (madePending p a) z;
-            place = refl;
-          })
+    pub limit-sent : AccountSound start now lo true p a → 0 < a .server .used → a .server .capacity ≡ 0 → a .pending .count < p .«max_repl» → start ≤ now → lo ≤ now
+        → p .«max_repl» ≤ 8 → (P : Effect → Type 0) → ((e : Effect) → Sent start now lo true p LowThenUpper a e → P e)
+        → ((e : Effect) → Sent start now lo false p Low a e → P e) → P (limitEffect now false p (a .server))
+    unfolding limitEffect
+    limit-sent h u z m st l m8 P up low =
+        rw (eq-eqb (a .server .capacity) 0 z)
+        (at-limit-elim now p (a .server) P (λ n. absurd (omega arith))
+        (λ v d. up _ (record {
+          sound = activate-sound start now lo p (applied (backAtOnce p (a .server)) a) (once-sound start now lo p a h) st;
+          upper = upper-yes p (applied (backAtOnce p (a .server)) a) (omega (tests, h .sums .0)) m;
+          place = refl;
+        }))
+        (λ v d. low _ (record {
+          sound = later-sound start now lo p a h l m m8 u d;
+          upper = upper-no p (applied (pendingLater p (a .server)) a) z;
+          place = refl;
+        })))
 
     -- a block: the thread stands in no list afterwards
     pub block-sound : (up : Bool) → AccountSound start now lo up p a → lo ≤ now → p .«max_repl» ≤ 8
-        → (up ≡ true → a .pending .count < p .«max_repl») → AccountSound start now lo false p (blocking now false p a .account)
+        → (up ≡ true → a .pending .count < p .«max_repl») → AccountSound start now lo false p (applied (blockEffect now false p (a .server)) a)
     block-sound up h l m8 m = schedule-sound start now lo p a up h l m8 m
 
     -- a wake of a blocked thread
-    pub wake-upper : AccountSound start now lo false p a → start ≤ now → isUpper p a ≡ true → Sent start now lo true p Upper (waking now true p a)
+    pub wake-upper : AccountSound start now lo false p a → start ≤ now → isUpper p a ≡ true
+        → Sent start now lo true p Upper a (wakeEffect now true p (a .pending .count) (a .server))
     wake-upper h l e = rw e (record { sound = activate-sound start now lo p a h l; upper = e; place = refl })
 
-    pub wake-low : AccountSound start now lo false p a → isUpper p a ≡ false → Sent start now lo false p Low (waking now true p a)
+    pub wake-low : AccountSound start now lo false p a → isUpper p a ≡ false → Sent start now lo false p Low a (wakeEffect now true p (a .pending .count) (a .server))
     wake-low h e = rw e (record { sound = h; upper = e; place = refl })
 
--- ---- what is due comes back
+-- ---- an entry comes back
 
 -- the first of n + 1 places goes, and the others move up
-pop-part : (n : ℕ) (xs : List ℕ) → suc n ≤ length xs → take n (shifted xs) ≡ drop 1 (take (suc n) xs)
+pop-part : (n : ℕ) (xs : List ℕ) → suc n ≤ length xs → take n (withoutFirst xs) ≡ drop 1 (take (suc n) xs)
 pop-part n [] l = absurd (omega arith)
 pop-part n (x ∷ xs) l = take-append-le n xs (0 ∷ []) (omega arith)
 
-pop-places : (n : ℕ) (xs : List ℕ) → suc n ≤ length xs → All (placeTests (suc n) xs) → All (placeTests n (shifted xs))
+pop-places : (n : ℕ) (xs : List ℕ) → suc n ≤ length xs → All (placeTests (suc n) xs) → All (placeTests n (withoutFirst xs))
 pop-places n [] l g = absurd (omega arith)
 pop-places n (x ∷ xs) l g = (
   rw (length-append xs (0 ∷ [])) (omega (tests, g .0)),
@@ -301,12 +315,15 @@ pop-times lo hi n (d ∷ ds) l g = sooner (take n ds) (g .1 .1)
     sooner (x ∷ xs) h = (omega (tests, g .0, h .0), h .1)
 
 module _ (start now lo : ℕ) (up : Bool) (p : Parameters) (a : Account) (h : AccountSound start now lo up p a) where
+  abbrev first : Effect
+  first = firstBack p (getD (a .pending .amounts) 0 0) (a .server)
+
   -- the first comes back: the others are no earlier
-  pub back-sound : firstIsDue now (a .pending) ≡ true → AccountSound start now lo up p (firstBack p a)
-  back-sound e = go (a .pending .count) refl
+  back-sound : 0 < a .pending .count → AccountSound start now lo up p (applied first a)
+  back-sound c = go (a .pending .count) refl
     where
-      go : (n : ℕ) → a .pending .count ≡ n → AccountSound start now lo up p (firstBack p a)
-      go zero z = absurd (omega (arith, due-some now p a e))
+      go : (n : ℕ) → a .pending .count ≡ n → AccountSound start now lo up p (applied first a)
+      go zero z = absurd (omega arith)
       go (suc n) z =
           let m : a .pending .count - 1 ≡ n = omega arith in
           let ls : suc n ≤ length (a .pending .amounts) = omega (tests, h .numbers, h .amountPlaces .0) in
@@ -320,6 +337,17 @@ module _ (start now lo : ℕ) (up : Bool) (p : Parameters) (a : Account) (h : Ac
             duePlaces = rw m (pop-places n (a .pending .dues) lt (rw z at (h .duePlaces)));
             amountPlaces = rw m (pop-places n (a .pending .amounts) ls (rw z at (h .amountPlaces)));
           }
+
+  -- capacity and room: at least 1 came back, and one fewer is pending
+  back-upper : 0 < a .pending .count → 1 ≤ p .budget → isUpper p (applied first a) ≡ true
+  back-upper c b = go (a .pending .count) refl
+    where
+      go : (n : ℕ) → a .pending .count ≡ n → isUpper p (applied first a) ≡ true
+      go zero z = absurd (omega arith)
+      go (suc n) z =
+          let ls : suc n ≤ length (a .pending .amounts) = omega (tests, h .numbers, h .amountPlaces .0) in
+          let s = pop-sum n (a .pending .amounts) ls (rw z at (h .sums .1)) in
+          upper-yes p (applied first a) (omega (arith, s .1)) (omega (tests, h .numbers))
 
   -- nothing is due: dues are after now
   pub none-sound : firstIsDue now (a .pending) ≡ false → AccountSound start now now up p a
@@ -340,66 +368,29 @@ module _ (start now lo : ℕ) (up : Bool) (p : Parameters) (a : Account) (h : Ac
           let f : leb d now ≡ false = rw (lt-ltb 0 (suc n) (omega arith)) at e in
           (lt-ltb now d (leb-false d now f), t .1)
 
-  -- capacity and room: at least 1 came back, and one fewer is pending
-  pub back-upper : firstIsDue now (a .pending) ≡ true → 1 ≤ p .budget → isUpper p (firstBack p a) ≡ true
-  back-upper e b = go (a .pending .count) refl
-    where
-      go : (n : ℕ) → a .pending .count ≡ n → isUpper p (firstBack p a) ≡ true
-      go zero z = absurd (omega (arith, due-some now p a e))
-      go (suc n) z =
-          let ls : suc n ≤ length (a .pending .amounts) = omega (tests, h .numbers, h .amountPlaces .0) in
-          let s = pop-sum n (a .pending .amounts) ls (rw z at (h .sums .1)) in
-          upper-yes p (firstBack p a) (omega (arith, s .1)) (omega (tests, h .numbers))
+-- what the return of the first entry leaves, and where it sends the thread
+pub data Returned (start now lo : ℕ) (blocked : Bool) (p : Parameters) (a : Account) (e : Effect) : Type 0 where
+  stays : e .place ≡ Stays → AccountSound start now lo (runsUpper blocked p a) p (applied e a) → runsUpper blocked p (applied e a) ≡ runsUpper blocked p a
+      → Returned start now lo blocked p a e
+  raised : e .place ≡ Upper → blocked ≡ false → isUpper p a ≡ false → AccountSound start now lo true p (applied e a) → isUpper p (applied e a) ≡ true
+      → Returned start now lo blocked p a e
 
--- however many are due, they come back one by one, and then dues are after now
-pub all-back-sound : (k start now lo : ℕ) (up : Bool) (p : Parameters) (a : Account) → a .pending .count ≤ k → AccountSound start now lo up p a
-    → AccountSound start now now up p (allBack k now p a)
-unfolding allBack
-all-back-sound zero start now lo up p a l h = none-sound start now lo up p a h (simp (le-ltb 0 (a .pending .count) l))
-all-back-sound (suc k) start now lo up p a l h =
-    cond-elim (AccountSound start now now up p) (firstIsDue now (a .pending)) (allBack k now p (firstBack p a)) a
-    (λ e. all-back-sound k start now lo up p (firstBack p a) (omega arith) (back-sound start now lo up p a h e))
-    (λ e. none-sound start now lo up p a h e)
-
--- a thread that is at its upper priority after the first stays there
-pub all-back-upper : (k start now lo : ℕ) (up : Bool) (p : Parameters) (a : Account) → AccountSound start now lo up p a → 1 ≤ p .budget → isUpper p a ≡ true
-    → isUpper p (allBack k now p a) ≡ true
-unfolding allBack
-all-back-upper zero start now lo up p a h b f = f
-all-back-upper (suc k) start now lo up p a h b f =
-    cond-elim (λ (x : Account). isUpper p x ≡ true) (firstIsDue now (a .pending)) (allBack k now p (firstBack p a)) a
-    (λ e. all-back-upper k start now lo up p (firstBack p a) (back-sound start now lo up p a h e) b (back-upper start now lo up p a h e b))
-    (λ e. f)
-
--- what a return leaves, and where it sends the thread; dues are after lo then
-pub data Returned (start now lo : ℕ) (blocked : Bool) (p : Parameters) (a : Account) (o : Outcome) : Type 0 where
-  stays : o .place ≡ Stays → AccountSound start now lo (runsUpper blocked p a) p (o .account) → runsUpper blocked p (o .account) ≡ runsUpper blocked p a
-      → Returned start now lo blocked p a o
-  raised : o .place ≡ Upper → blocked ≡ false → isUpper p a ≡ false → AccountSound start now lo true p (o .account) → isUpper p (o .account) ≡ true
-      → Returned start now lo blocked p a o
-
-pub return-sound : (start now lo : ℕ) (blocked : Bool) (p : Parameters) (a : Account) → AccountSound start now lo (runsUpper blocked p a) p a
-    → start ≤ now → 1 ≤ p .budget → Returned start now now blocked p a (returning now blocked p a)
-return-sound start now lo blocked p a h st b = go (firstIsDue now (a .pending)) refl blocked h (isUpper p a) refl
+pub return-sound : (start now lo : ℕ) (blocked : Bool) (p : Parameters) (a : Account) → AccountSound start now lo (runsUpper blocked p a) p a → 0 < a .pending .count
+    → start ≤ now → 1 ≤ p .budget → Returned start now lo blocked p a (returnFirst now blocked p a)
+return-sound start now lo blocked p a h c st b =
+    return-elim now p (a .server) blocked (a .pending .count) (getD (a .pending .amounts) 0 0) (Returned start now lo blocked p a) (λ z. absurd (omega arith))
+    (λ n u. stays refl (back-sound start now lo (runsUpper blocked p a) p a h c) (same blocked u))
+    (λ n w u. raised refl w u
+    (activate-sound start now lo p _ (subst (λ (x : Bool). AccountSound start now lo x p (applied (firstBack p (getD (a .pending .amounts) 0 0) (a .server)) a)) (low blocked w u) (back-sound start now lo (runsUpper blocked p a) p a h c)) st)
+    up)
   where
-    back : (up : Bool) → AccountSound start now lo up p a → AccountSound start now now up p (allBack (a .pending .count) now p a)
-    back up h = all-back-sound (a .pending .count) start now lo up p a (omega arith) h
+    up : isUpper p (applied (firstBack p (getD (a .pending .amounts) 0 0) (a .server)) a) ≡ true
+    up = back-upper start now lo (runsUpper blocked p a) p a h c b
 
-    up-after : (up : Bool) → AccountSound start now lo up p a → firstIsDue now (a .pending) ≡ true
-        → isUpper p (allBack (a .pending .count) now p a) ≡ true
-    up-after up h e =
-        rw (sym (back-one now p a e))
-        (all-back-upper (firstBack p a .pending .count) start now lo up p (firstBack p a) (back-sound start now lo up p a h e) b
-        (back-upper start now lo up p a h e b))
+    low : (x : Bool) → x ≡ false → isUpper p a ≡ false → runsUpper x p a ≡ false
+    low true w u = refl
+    low false w u = u
 
-    go : (d : Bool) → firstIsDue now (a .pending) ≡ d → (blocked : Bool) → AccountSound start now lo (runsUpper blocked p a) p a → (u : Bool) → isUpper p a ≡ u
-        → Returned start now now blocked p a (returning now blocked p a)
-    go false e blocked h u f =
-        rw (return-none now p a blocked e) (stays refl (none-sound start now lo (runsUpper blocked p a) p a h e) refl)
-    go true e true h u f = rw (return-blocked now p a true e refl) (stays refl (back false h) refl)
-    go true e false h true f =
-        rw (return-upper now p a false e refl f) (stays refl (back (isUpper p a) h) (up-after (isUpper p a) h e ∙ sym f))
-    go true e false h false f =
-        rw (return-low now p a false e refl f)
-        (raised refl refl f (activate-sound start now now p (allBack (a .pending .count) now p a) (rw f at (back (isUpper p a) h)) st)
-        (up-after (isUpper p a) h e))
+    same : (x : Bool) → (x ≡ false → isUpper p a ≡ true) → runsUpper x p (applied (firstBack p (getD (a .pending .amounts) 0 0) (a .server)) a) ≡ runsUpper x p a
+    same true u = refl
+    same false u = up ∙ sym (u refl)

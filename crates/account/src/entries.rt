@@ -1,20 +1,42 @@
-// The places of the pending replenishments: an entry comes after the others, and the first one goes.
+// The slots of the pending entries: an entry comes behind the others, and the first one goes.
 ghost use mathlib.Core.Path.{_≡_};
-ghost use Prim.Native.Nat.{_<_};
-ghost use Rattle.account.specs.Rules.{shifted, withEntry, withoutFirst};
+ghost use Rattle.account.specs.Rules.{withoutFirst, countAfter, slotsAfter, Room};
 use super::ENTRIES;
-use super::Pending;
 
-// One more pending replenishment.
-pub(super) fn push(q: Pending, due: u64, amount: u64) -> Pending
-    requires { ⌜ q .count < 8 ⌝ }
-    ensures { λ r. ⌜ r ≡ withEntry due amount q ⌝ }
+// How many entries there are after a rule: one less where the first went, one more where an amount came.
+pub fn count_after(first: bool, amount: u64, count: u8) -> u8
+    requires { ⌜ Room first amount count ⌝ }
+    ensures { λ r. ⌜ r ≡ countAfter first amount count ⌝ }
 {
-    let mut r = q;
-    let k = wide(q.count);
-    r.dues[k] = due;
-    r.amounts[k] = amount;
-    r.count = q.count + 1;
+    if first {
+        return count - 1;
+    }
+    if amount == 0 {
+        return count;
+    }
+    count + 1
+}
+
+// And their dues or amounts: x is the due time or the amount of the one that came.
+pub fn slots_after(
+    xs: [u64; ENTRIES],
+    first: bool,
+    amount: u64,
+    count: u8,
+    x: u64,
+) -> [u64; ENTRIES]
+    requires { ⌜ Room first amount count ⌝ }
+    ensures { λ r. ⌜ r ≡ slotsAfter first amount count x xs ⌝ }
+{
+    if first {
+        return without_first(xs);
+    }
+    if amount == 0 {
+        return xs;
+    }
+    let mut r = xs;
+    let k = wide(count);
+    r[k] = x;
     r
 }
 
@@ -24,9 +46,9 @@ fn wide(x: u8) -> usize
     x as usize
 }
 
-// Each number one place up; the last place is 0.
-pub fn shift(xs: [u64; ENTRIES]) -> [u64; ENTRIES]
-    ensures { λ r. ⌜ r ≡ shifted xs ⌝ }
+// Each number one slot up; the last slot is 0.
+pub fn without_first(xs: [u64; ENTRIES]) -> [u64; ENTRIES]
+    ensures { λ r. ⌜ r ≡ withoutFirst xs ⌝ }
 {
     let mut r = xs;
     let mut i: usize = 0;
@@ -36,18 +58,4 @@ pub fn shift(xs: [u64; ENTRIES]) -> [u64; ENTRIES]
     }
     r[i] = 0;
     r
-}
-
-// The pending replenishments without the first.
-pub(super) fn without_first(q: Pending) -> Pending
-    requires { ⌜ 0 < q .count ⌝ }
-    ensures { λ r. ⌜ r ≡ withoutFirst q ⌝ }
-{
-    let dues = q.dues;
-    let amounts = q.amounts;
-    Pending {
-        count: q.count - 1,
-        dues: shift(dues),
-        amounts: shift(amounts),
-    }
 }

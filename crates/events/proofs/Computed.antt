@@ -3,7 +3,7 @@ use mathlib.Core.Path.{refl}
 use mathlib.Core.List.{_++_}
 use Rattle.records.specs.Tests.{all, below}
 use Rattle.records.specs.Ranges.{fifoInRange, rrInRange, sporadicInRange, inRange, allZero}
-use Rattle.account.specs.Rules.{scheduled, limitReached, allBack, returning}
+use Rattle.account.specs.Rules.{scheduled, limitEffect, returnEffect}
 use Rattle.account.specs.Sound.{soundAt}
 use Rattle.ready.specs.Lists.{withThreads, without, occurs}
 use Rattle.ready.specs.Word.{wordOf, occupancy}
@@ -21,5 +21,5 @@ use Rattle.events.specs.Table.{Holds, replay, instances}
 
 -- the replay's seven events and the five rows
 pub table-holds : Holds (replay ++ instances)
-unfolding lib.Count.leadingZeros all below fifoInRange rrInRange sporadicInRange inRange allZero scheduled limitReached allBack returning soundAt withThreads without occurs wordOf occupancy soundRow soundRows soundLists run firstOf status answer withRow presentTest absentTest soundState nextDue limits replenish replenishBelow fire effect fieldStatusOf stateStatusOf enteredBelow openStatus opening
+unfolding lib.Count.leadingZeros all below fifoInRange rrInRange sporadicInRange inRange allZero scheduled limitEffect returnEffect soundAt withThreads without occurs wordOf occupancy soundRow soundRows soundLists run firstOf status answer withRow presentTest absentTest soundState nextDue limits replenish replenishBelow fire effect fieldStatusOf stateStatusOf enteredBelow openStatus opening
 table-holds = refl

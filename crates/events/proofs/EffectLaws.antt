@@ -15,7 +15,7 @@ use Rattle.account.specs.declared.Account.{Account}
 use Rattle.account.specs.declared.Place.{Place}
 use Rattle.account.specs.declared.Place.the-variants.{Low, Upper}
 use Rattle.account.specs.Account.{isUpper, freshAccount}
-use Rattle.account.specs.Rules.{blocking, waking}
+use Rattle.account.specs.Rules.{wakeEffect, blocking, waking}
 use Rattle.account.specs.Sound.{runsUpper}
 use Rattle.account.proofs.SoundLaws.{AccountSound, Sent, block-sound, wake-upper, wake-low, fresh-sound, upper-room}
 use Rattle.state.specs.declared.Thread.{Thread}
@@ -75,7 +75,7 @@ module _ (start now : ℕ) (b : Bool) (t : Thread) (q : Pending) (d : length (q 
       slept : AccountSound start now now false (t .parameters) (record { server = t .server; pending = q })
       slept = subst (λ (x : Bool). AccountSound start now now x (t .parameters) (record { server = t .server; pending = q })) (cond-true (isBlocked t) false _ w) v
 
-      sent : (u : Bool) (x : Place) → Sent start now now u (t .parameters) x (waking now true (t .parameters) (record { server = t .server; pending = q }))
+      sent : (u : Bool) (x : Place) → Sent start now now u (t .parameters) x (record { server = t .server; pending = q }) (wakeEffect now true (t .parameters) (q .count) (t .server))
           → Fits start now b (withBlocked 0 (fullQuantum t)) (waking now true (t .parameters) (record { server = t .server; pending = q }) .account)
       sent u x k =
           record {

@@ -15,9 +15,9 @@ use Rattle.records.specs.Ranges.{inRange, allZero}
 use Rattle.records.proofs.TestLaws.{tests, cond-elim, cond-true, cond-false, false-true}
 use Rattle.account.specs.declared.Pending.{Pending}
 use Rattle.account.specs.declared.Account.{Account}
-use Rattle.account.specs.declared.Place.the-variants.{Low, Upper}
 use Rattle.account.specs.Account.{atUpper, isUpper}
-use Rattle.account.specs.Rules.{activated, outcome, waking}
+use Rattle.account.specs.declared.Place.the-variants.{Low, Upper}
+use Rattle.account.specs.Rules.{activated, applied, unchanged, sent, waking}
 use Rattle.ready.specs.Lists.{appended, removed, moved}
 use Rattle.ready.specs.Word.{occupancy}
 use Rattle.ready.proofs.Soundness.{ListsSound}
@@ -56,8 +56,10 @@ assigned-range start now lo b t q (sporadic n z g l v) d =
 waking-same : (now : ℕ) (p : Parameters) (a : Account) → (waking now true p a .account .server .capacity ≡ a .server .capacity) × (waking now true p a .account .pending ≡ a .pending)
 waking-same now p a = go (isUpper p a)
   where
-    go : (b : Bool) → (cond b (outcome (activated now a) Upper) (outcome a Low) .account .server .capacity ≡ a .server .capacity)
-        × (cond b (outcome (activated now a) Upper) (outcome a Low) .account .pending ≡ a .pending)
+    after : Bool → Account
+    after u = applied (cond u (sent Upper (activated now (a .server)) (unchanged (a .server))) (sent Low (a .server) (unchanged (a .server)))) a
+
+    go : (u : Bool) → (after u .server .capacity ≡ a .server .capacity) × (after u .pending ≡ a .pending)
     go true = (refl, refl)
     go false = (refl, refl)
 

@@ -9,12 +9,9 @@ use lib.Dec.{eqb}
 use native.Mathlib.Omega.{arith}
 use borrow.Author.Tests.{eqb-true, eqb-false}
 use Rattle.records.proofs.TestLaws.{tests, cond-true, cond-false}
-use Rattle.account.specs.declared.Pending.{Pending}
-use Rattle.account.specs.declared.Outcome.{Outcome}
 use Rattle.account.specs.declared.Effect.{Effect}
-use Rattle.account.specs.Rules.{withEntry, withAdded, withoutFirst, outcome, limitReached, limitEffect, returnEffect}
-use Rattle.account.proofs.EffectLaws.{limit-amount, limit-is}
-use Rattle.account.proofs.ReturnLaws.{returned-first-is}
+use Rattle.account.specs.Rules.{pendingAfter, Room, Schedulable, limitEffect, returnEffect, returnFirst}
+use Rattle.account.proofs.EffectLaws.{limit-keeps, limit-room, return-room}
 use Rattle.ready.specs.Lists.{moved}
 use Rattle.ready.specs.Word.{occupancy}
 use Rattle.ready.specs.Rules.{Movable}
@@ -27,9 +24,8 @@ use Rattle.state.specs.State.{isBlocked, threadAt, pendingAt, accountAt, withSe
 use Rattle.rows.proofs.RowLaws.{row-length}
 use Rattle.ticks.specs.declared.Due.{Due}
 use Rattle.ticks.specs.Running.{level, head, ran, charge, limit, nextDue, next}
-use Rattle.moments.specs.Changes.{withLeft, sentTo, countAfter, rowAfter, withOutcome}
+use Rattle.moments.specs.Changes.{withLeft, sentTo, withEffect}
 use Rattle.moments.specs.Moments.{quantumEnded, limits, passed}
-use Rattle.moments.proofs.FirstLaws.{backFirst}
 use Rattle.moments.proofs.DueLaws.{found, row-first, earlier-left}
 use Rattle.moments.proofs.InsertLaws.{afterLimit, after-limit-is, limit-entries}
 use Rattle.moments.proofs.ChargeLaws.{limit-later}
@@ -52,29 +48,8 @@ withTicks i now idle w s =
       lists = s .lists;
     }
 
--- the entries after a limit or a return, by their parts
-abbrev entriesAfter : Bool → ℕ → ℕ → Pending → Pending
-entriesAfter limited due amount q =
-    record {
-      count = countAfter limited amount (q .count);
-      dues = rowAfter limited amount (q .count) due (q .dues);
-      amounts = rowAfter limited amount (q .count) amount (q .amounts);
-    }
-
--- after a limit: one more where the amount is not 0
-added-is : (due amount : ℕ) (q : Pending) → withAdded due amount q ≡ entriesAfter true due amount q
-added-is due amount q = go (eqb amount 0)
-  where
-    go : (z : Bool) → cond z q (withEntry due amount q) ≡ record {
-      count = cond z (q .count) (q .count + 1);
-      dues = cond z (q .dues) (set (q .dues) (q .count) due);
-      amounts = cond z (q .amounts) (set (q .amounts) (q .count) amount);
-    }
-    go true = refl
-    go false = refl
-
--- an outcome put in place: what the writes leave
-pub record Put (u : State) (j : ℕ) (o : Outcome) : Type 0 where
+-- an effect put in place: what the writes leave
+pub record Put (u : State) (j : ℕ) (e : Effect) : Type 0 where
   pub number : ℕ
   pub word : ℕ
   pub thread : Thread
@@ -83,15 +58,15 @@ pub record Put (u : State) (j : ℕ) (o : Outcome) : Type 0 where
   pub amounts : List ℕ
   pub lists : List ℕ
   pub number-is : number ≡ j
-  pub word-is : word ≡ occupancy (sentTo (o .place) number (threadAt u j .parameters) (u .lists))
-  pub thread-is : thread ≡ withServer (o .account .server) (threadAt u j)
-  pub count-is : count ≡ o .account .pending .count
-  pub dues-is : dues ≡ withRow j (o .account .pending .dues) (u .dues)
-  pub amounts-is : amounts ≡ withRow j (o .account .pending .amounts) (u .amounts)
-  pub lists-is : lists ≡ sentTo (o .place) number (threadAt u j .parameters) (u .lists)
+  pub word-is : word ≡ occupancy (sentTo (e .place) number (threadAt u j .parameters) (u .lists))
+  pub thread-is : thread ≡ withServer (e .server) (threadAt u j)
+  pub count-is : count ≡ pendingAfter e (pendingAt u j) .count
+  pub dues-is : dues ≡ withRow j (pendingAfter e (pendingAt u j) .dues) (u .dues)
+  pub amounts-is : amounts ≡ withRow j (pendingAfter e (pendingAt u j) .amounts) (u .amounts)
+  pub lists-is : lists ≡ sentTo (e .place) number (threadAt u j .parameters) (u .lists)
 
-abbrev pub putState : (u : State) (j : ℕ) (o : Outcome) → Put u j o → State
-putState u j o p =
+abbrev pub putState : (u : State) (j : ℕ) (e : Effect) → Put u j e → State
+putState u j e p =
     record {
       header = u .header;
       now = u .now;
@@ -104,18 +79,18 @@ putState u j o p =
       lists = p .lists;
     }
 
-put-is : (u : State) (j : ℕ) (o : Outcome) (p : Put u j o) → putState u j o p ≡ withOutcome j o u
-put-is u j o p =
+put-is : (u : State) (j : ℕ) (e : Effect) (p : Put u j e) → putState u j e p ≡ withEffect j e u
+put-is u j e p =
     λ y. record {
       header = u .header;
       now = u .now;
       idle = u .idle;
-      word = (p .word-is ∙ ap (λ (k : ℕ). occupancy (sentTo (o .place) k (threadAt u j .parameters) (u .lists))) (p .number-is)) y;
+      word = (p .word-is ∙ ap (λ (k : ℕ). occupancy (sentTo (e .place) k (threadAt u j .parameters) (u .lists))) (p .number-is)) y;
       threads = set (u .threads) j (p .thread-is y);
       counts = set (u .counts) j (p .count-is y);
       dues = p .dues-is y;
       amounts = p .amounts-is y;
-      lists = (p .lists-is ∙ ap (λ (k : ℕ). sentTo (o .place) k (threadAt u j .parameters) (u .lists)) (p .number-is)) y;
+      lists = (p .lists-is ∙ ap (λ (k : ℕ). sentTo (e .place) k (threadAt u j .parameters) (u .lists)) (p .number-is)) y;
     }
 
 -- what holds between turns: time goes on as it did before, and x is the next due
@@ -157,23 +132,23 @@ pub record Chosen (r : Turn) (k : Ticked r) : Type 0 where
   pub number-is : number ≡ cond (eqb (r .moment) (r .limit)) (r .at) (r .first .thread)
 
 -- what the rule of a turn leaves: the thread can be sent, time goes on as before, and a turn less is left
-pub record Acted (r : Turn) (u : State) (j : ℕ) (o : Outcome) : Type 0 where
-  pub sendable : Sendable (u .word) j (threadAt u j .parameters) (u .lists) (o .place)
-  pub going : Going (r .origin) (r .to) (withOutcome j o u)
-  pub falls : weight (r .to) (withOutcome j o u) < weight (r .to) (r .state)
+pub record Acted (r : Turn) (u : State) (j : ℕ) (e : Effect) : Type 0 where
+  pub sendable : Sendable (u .word) j (threadAt u j .parameters) (u .lists) (e .place)
+  pub going : Going (r .origin) (r .to) (withEffect j e u)
+  pub falls : weight (r .to) (withEffect j e u) < weight (r .to) (r .state)
 
--- and so the writes of its outcome
-pub put-going : (r : Turn) (u : State) (j : ℕ) (o : Outcome) (p : Put u j o) → Acted r u j o → Going (r .origin) (r .to) (putState u j o p)
-put-going r u j o p a = subst⁻¹ (Going (r .origin) (r .to)) (put-is u j o p) (a .going)
+-- and so the writes of its effect
+pub put-going : (r : Turn) (u : State) (j : ℕ) (e : Effect) (p : Put u j e) → Acted r u j e → Going (r .origin) (r .to) (putState u j e p)
+put-going r u j e p a = subst⁻¹ (Going (r .origin) (r .to)) (put-is u j e p) (a .going)
 
-pub put-falls : (r : Turn) (u : State) (j : ℕ) (o : Outcome) (p : Put u j o) → Acted r u j o → weight (r .to) (putState u j o p) < weight (r .to) (r .state)
-put-falls r u j o p a = subst⁻¹ (λ (y : State). weight (r .to) y < weight (r .to) (r .state)) (put-is u j o p) (a .falls)
+pub put-falls : (r : Turn) (u : State) (j : ℕ) (e : Effect) (p : Put u j e) → Acted r u j e → weight (r .to) (putState u j e p) < weight (r .to) (r .state)
+put-falls r u j e p a = subst⁻¹ (λ (y : State). weight (r .to) y < weight (r .to) (r .state)) (put-is u j e p) (a .falls)
 
 -- no due is before now then
-pub put-later : (r : Turn) (u : State) (j : ℕ) (o : Outcome) (p : Put u j o) → Acted r u j o
+pub put-later : (r : Turn) (u : State) (j : ℕ) (e : Effect) (p : Put u j e) → Acted r u j e
     → (i : ℕ) → i < 32 → 0 < getD (set (u .counts) j (p .count)) i 0 → u .now ≤ getD (p .dues) (i * 8) 0
-put-later r u j o p a i l c =
-    omega (arith, row-first i (p .dues), first-later (λ i. u .now - 1) (putState u j o p) (put-going r u j o p a .mid) i l c)
+put-later r u j e p a i l c =
+    omega (arith, row-first i (p .dues), first-later (λ i. u .now - 1) (putState u j e p) (put-going r u j e p a .mid) i l c)
 
 module _ (r : Turn) where
   abbrev s₀ : State
@@ -422,11 +397,10 @@ module _ (r : Turn) where
           go false q = omega (arith, first-small q, j-due q)
 
       -- what the rule of the limit requires
-      pub limit-requires : eqb m l ≡ true
-          → (threadAt u j .server .activation + threadAt u j .parameters .period < 2 ^ 64) × (0 < threadAt u j .server .used → getD (s .counts) j 0 < 8)
+      pub limit-requires : eqb m l ≡ true → Schedulable (threadAt u j .parameters) (threadAt u j .server) (getD (s .counts) j 0)
       limit-requires q =
-          subst⁻¹ (λ (y : State). (threadAt y j .server .activation + threadAt y j .parameters .period < 2 ^ 64) × (0 < threadAt y j .server .used → pendingAt y j .count < 8)) charged-is
-          (subst⁻¹ (λ (n : ℕ). (threadAt c n .server .activation + threadAt c n .parameters .period < 2 ^ 64) × (0 < threadAt c n .server .used → pendingAt c n .count < 8)) (j-head q)
+          subst⁻¹ (λ (y : State). Schedulable (threadAt y j .parameters) (threadAt y j .server) (getD (y .counts) j 0)) charged-is
+          (subst⁻¹ (λ (n : ℕ). Schedulable (threadAt c n .parameters) (threadAt c n .server) (getD (c .counts) n 0)) (j-head q)
           (limited-requires (λ i. s .now - 1) s (g .mid) (some b) (limited q) (later b) (not-rr q)))
 
       -- the first due, where the moment is no limit
@@ -437,14 +411,11 @@ module _ (r : Turn) where
         goes : Going s₀ t c
         goes = charged-going s₀ s t g (some b) (by b) top (unlimited q)
 
-        pub some-pending : 0 < getD (s .counts) j 0
-        some-pending = subst⁻¹ (λ (n : ℕ). 0 < getD (s .counts) n 0) (j-due q) (here .1)
-
       -- the rule, on the state as it is charged
-      abbrev rule : State → ℕ → Outcome
+      abbrev rule : State → ℕ → Effect
       rule y n =
-          cond (eqb m l) (limitReached (y .now) false (threadAt y n .parameters) (accountAt y n))
-          (backFirst n y)
+          cond (eqb m l) (limitEffect (y .now) false (threadAt y n .parameters) (threadAt y n .server))
+          (returnFirst (y .now) (isBlocked (threadAt y n)) (threadAt y n .parameters) (accountAt y n))
 
       on-charged : Acted r c j (rule c j)
       on-charged = go (eqb m l) refl
@@ -455,9 +426,9 @@ module _ (r : Turn) where
               (subst⁻¹ (Acted r c (head s)) (cond-true (eqb m l) _ _ q)
               (record {
                 sendable =
-                    subst⁻¹ (λ (y : Thread). Sendable (s .word) (head s) (y .parameters) (s .lists) (limitReached (c .now) false (threadAt c (head s) .parameters) (accountAt c (head s)) .place))
+                    subst⁻¹ (λ (y : Thread). Sendable (s .word) (head s) (y .parameters) (s .lists) (limitEffect (c .now) false (threadAt c (head s) .parameters) (threadAt c (head s) .server) .place))
                     (limit-thread (λ i. s .now - 1) s (g .mid) (some b) (limited q) (later b))
-                    (limited-sendable (λ i. s .now - 1) s (g .mid) (some b) (limited q) (later b) (not-rr q) _ (limit-not-upper (c .now) (threadAt c (head s) .parameters) (accountAt c (head s))));
+                    (limited-sendable (λ i. s .now - 1) s (g .mid) (some b) (limited q) (later b) (not-rr q) _ (limit-not-upper (c .now) false (threadAt c (head s) .parameters) (threadAt c (head s) .server)));
                 going = subst⁻¹ (Going s₀ t) (limited-is (λ i. s .now - 1) s (g .mid) (some b) (limited q) (later b) (not-rr q)) (turn-limit s₀ s t g (some b) (by b) top (limited q) .0);
                 falls =
                     subst⁻¹ (λ (y : State). weight t y < weight t s) (limited-is (λ i. s .now - 1) s (g .mid) (some b) (limited q) (later b) (not-rr q))
@@ -473,64 +444,48 @@ module _ (r : Turn) where
                 falls = turn-due s₀ s t g (some b) (by b) top e .1;
               }))
 
-      -- and on the state in place
-      abbrev pub ruled : Bool → Outcome
-      ruled a =
-          cond a (limitReached m false (threadAt u j .parameters) (accountAt u j))
-          (backFirst j u)
-
-      pub acts : (o : Outcome) → ruled (eqb m l) ≡ o → Acted r u j o
-      acts o f = subst (Acted r u j) f (subst⁻¹ (λ (y : State). Acted r y j (rule y j)) charged-is on-charged)
-
-      -- in parts: its effect, and the entries after that
+      -- and on the state in place, with the numbers that the code reads
       abbrev effectBy : Bool → Effect
       effectBy a =
-          cond a (limitEffect m (threadAt u j .parameters) (threadAt u j .server))
+          cond a (limitEffect m false (threadAt u j .parameters) (threadAt u j .server))
           (returnEffect m (isBlocked (threadAt u j)) (threadAt u j .parameters) (getD (s .counts) j 0) (getD (s .amounts) (j * 8) 0) (threadAt u j .server))
 
-      abbrev backBy : ℕ → Effect
-      backBy x = returnEffect m (isBlocked (threadAt u j)) (threadAt u j .parameters) (getD (s .counts) j 0) x (threadAt u j .server)
+      rule-is : (a : Bool) → a ≡ eqb m l → effectBy a ≡ rule u j
+      rule-is a f =
+          ap (λ (x : ℕ). cond a (limitEffect m false (threadAt u j .parameters) (threadAt u j .server))
+          (returnEffect m (isBlocked (threadAt u j)) (threadAt u j .parameters) (getD (s .counts) j 0) x (threadAt u j .server))) (sym (row-first j (s .amounts)))
+          ∙ ap (λ (x : Bool). cond x (limitEffect m false (threadAt u j .parameters) (threadAt u j .server))
+          (returnFirst m (isBlocked (threadAt u j)) (threadAt u j .parameters) (accountAt u j))) f
 
-      abbrev pub leaves : Bool → Effect → Outcome
-      leaves a e = outcome (record { server = e .server; pending = entriesAfter a (e .due) (e .amount) (pendingAt u j) }) (e .place)
+      pub acts : (a : Bool) → a ≡ eqb m l → (e : Effect) → e ≡ effectBy a → Acted r u j e
+      acts a f e h = subst⁻¹ (Acted r u j) (h ∙ rule-is a f) (subst⁻¹ (λ (y : State). Acted r y j (rule y j)) charged-is on-charged)
 
-      pub rule-leaves : (a : Bool) → a ≡ eqb m l → (e : Effect) → e ≡ effectBy a → ruled (eqb m l) ≡ leaves a e
-      rule-leaves true f e h =
-          ap ruled (sym f)
-          ∙ limit-is m (threadAt u j .parameters) (threadAt u j .server) (pendingAt u j)
-          ∙ ap (λ (q : Pending). outcome (record { server = effectBy true .server; pending = q }) (effectBy true .place)) (added-is (effectBy true .due) (effectBy true .amount) (pendingAt u j))
-          ∙ ap (leaves true) (sym h)
-      rule-leaves false f e h =
-          ap ruled (sym f)
-          ∙ returned-first-is m (isBlocked (threadAt u j)) (threadAt u j .parameters) (threadAt u j .server) (pendingAt u j)
-          ∙ ap (λ (x : ℕ). outcome (record { server = backBy x .server; pending = withoutFirst (pendingAt u j) }) (backBy x .place)) (row-first j (s .amounts))
-          ∙ ap (leaves false) (sym h)
-
-      -- a limit that adds an entry has room for it
-      pub room : (a : Bool) → a ≡ eqb m l → (e : Effect) → e ≡ effectBy a → a ≡ true → 0 < e .amount → getD (s .counts) j 0 < 8
-      room a f e h q n =
-          limit-requires (sym f ∙ q) .1
-          (omega (arith, ap (λ (x : Effect). x .amount) (h ∙ cond-true a _ _ q), limit-amount m (threadAt u j .parameters) (threadAt u j .server)))
+      -- an entry to go, or room for one
+      pub room : (a : Bool) → a ≡ eqb m l → (e : Effect) → e ≡ effectBy a → Room (e .first) (e .amount) (getD (s .counts) j 0)
+      room true f e h =
+          subst⁻¹ (λ (x : Effect). Room (x .first) (x .amount) (getD (s .counts) j 0)) h
+          (limit-room m (threadAt u j .parameters) (threadAt u j .server) false (getD (s .counts) j 0) (limit-requires (sym f)))
+      room false f e h =
+          subst⁻¹ (λ (x : Effect). Room (x .first) (x .amount) (getD (s .counts) j 0)) h
+          (return-room m (threadAt u j .parameters) (threadAt u j .server) (isBlocked (threadAt u j)) (getD (s .counts) j 0) (getD (s .amounts) (j * 8) 0))
 
       -- ---- the next due after a limit
-
-      abbrev limited-at : Outcome
-      limited-at = limitReached m false (threadAt u j .parameters) (accountAt u j)
 
       abbrev Known : Due → ℕ → List ℕ → Type 0
       Known y count dues = y ≡ afterLimit x j (getD (s .counts) j 0) count (getD dues (j * 8) 0) → y ≡ nextDue (set (s .counts) j count) dues (s .header .n)
 
-      limited-known : eqb m l ≡ true → (y : Due) → Known y (limited-at .account .pending .count) (withRow j (limited-at .account .pending .dues) (s .dues))
-      limited-known q y f =
-          let w = limit-entries m (threadAt u j .parameters) (accountAt u j) (row-length j (s .dues) number-small (omega (tests, g .mid .sizes))) in
+      limited-known : eqb m l ≡ true → (e : Effect) → e .first ≡ false → (y : Due) → Known y (pendingAfter e (pendingAt u j) .count) (withRow j (pendingAfter e (pendingAt u j) .dues) (s .dues))
+      limited-known q e z y f =
+          let w = limit-entries e (pendingAt u j) z (row-length j (s .dues) number-small (omega (tests, g .mid .sizes))) in
           after-limit-is (s .counts) (s .dues) (s .header .n) j (omega (tests, g .mid .sizes)) number-small (omega (tests, g .mid .sizes)) (omega (tests, g .mid .sizes))
-          (limited-at .account .pending) (w .0) (λ c. omega (arith, j-head q, here)) (λ c. let z = w .1 c in (z .0, z .1 ∙ row-first j (s .dues))) x y (v .first) f
+          (pendingAfter e (pendingAt u j)) (w .0) (λ c. omega (arith, j-head q, here)) (λ c. let z = w .1 c in (z .0, z .1 ∙ row-first j (s .dues))) x y (v .first) f
         where
           here : head s < s .header .n
           here = limited-present (λ i. s .now - 1) s (g .mid) (some b) (limited q) (later b) (not-rr q)
 
-      pub limit-due : (o : Outcome) → ruled (eqb m l) ≡ o → eqb m l ≡ true → (p : Put u j o) (y : Due)
-          → y ≡ afterLimit x j (getD (s .counts) j 0) (p .count) (getD (p .dues) (j * 8) 0) → y ≡ firstOf (putState u j o p)
-      limit-due o f q p y =
+      pub limit-due : (a : Bool) → a ≡ eqb m l → (e : Effect) → e ≡ effectBy a → a ≡ true → (p : Put u j e) (y : Due)
+          → y ≡ afterLimit x j (getD (s .counts) j 0) (p .count) (getD (p .dues) (j * 8) 0) → y ≡ firstOf (putState u j e p)
+      limit-due a f e h q p y =
           subst₂ (Known y) (sym (p .count-is)) (sym (p .dues-is))
-          (subst (λ (a : Outcome). Known y (a .account .pending .count) (withRow j (a .account .pending .dues) (s .dues))) (sym (cond-true (eqb m l) _ _ q) ∙ f) (limited-known q y))
+          (limited-known (sym f ∙ q) e
+          (ap (λ (x : Effect). x .first) (h ∙ cond-true a _ _ q) ∙ limit-keeps m (threadAt u j .parameters) (threadAt u j .server) false) y)

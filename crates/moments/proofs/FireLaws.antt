@@ -1,26 +1,27 @@
 -- What happens at a moment keeps a state sound.
-use Prim.Native.Nat.{ℕ, zero, suc, _≤_, _<_}
+use Prim.Native.Nat.{ℕ, zero, suc, _-_, _≤_, _<_}
 use mathlib.Core.Bool.{Bool, true, false, cond, _&&_}
 use mathlib.Core.Path.{_≡_, refl, sym, ap, _∙_, subst, subst⁻¹}
 use lib.ListN.{getD}
+use lib.Seq.{getD-set-same}
 use lib.Dec.{ltb, eqb}
 use native.Mathlib.Omega.{arith}
 use native.Mathlib.Decide.{ℕ-discrete}
-use borrow.Author.Tests.{eq-eqb, ne-eqb, lt-ltb, le-ltb, ltb-false}
+use borrow.Author.Tests.{eqb-true, eq-eqb, ne-eqb, lt-ltb, le-ltb, ltb-false}
 use Rattle.records.specs.declared.Header.{Header}
 use Rattle.records.proofs.TestLaws.{tests, All, cond-elim, policy-elim, cond-true, cond-false, false-true}
 use Rattle.account.specs.declared.Server.{Server}
 use Rattle.account.specs.declared.Pending.{Pending}
-use Rattle.account.specs.declared.Outcome.{Outcome}
+use Rattle.account.specs.declared.Account.{Account}
+use Rattle.account.specs.declared.Effect.{Effect}
 use Rattle.account.specs.declared.Place.{Place}
 use Rattle.account.specs.declared.Place.the-variants.{Stays, Upper}
-use Rattle.account.specs.Account.{atUpper, isUpper}
-use Rattle.account.specs.Rules.{limitReached, firstIsDue, firstBack, returning}
+use Rattle.account.specs.Account.{atUpper}
+use Rattle.account.specs.Rules.{applied, limitEffect, firstIsDue, returnFirst}
 use Rattle.account.specs.Sound.{runsUpper}
-use Rattle.account.proofs.RuleLaws.{due-some}
-use Rattle.account.proofs.SoundLaws.{AccountSound, none-sound, back-upper, Returned, return-sound}
+use Rattle.account.proofs.ReturnLaws.{due-some, first-counted}
+use Rattle.account.proofs.SoundLaws.{AccountSound, none-sound, Returned, return-sound}
 use Rattle.account.proofs.SoundLaws.Returned.{stays, raised}
-use Rattle.account.proofs.ReturnLaws.{returnedFirst, first-sound}
 use Rattle.ready.specs.Lists.{moved}
 use Rattle.ready.specs.Word.{occupancy}
 use Rattle.ready.proofs.Soundness.{ListsSound}
@@ -28,12 +29,12 @@ use Rattle.ready.proofs.SoundLaws.{withPlace, sound-same, move-sound}
 use Rattle.state.specs.declared.Thread.{Thread}
 use Rattle.state.specs.declared.State.{State}
 use Rattle.state.specs.State.{isBlocked, threadAt, pendingAt, accountAt, placeOf, place, withServer}
-use Rattle.state.proofs.SoundLaws.{ThreadSound, SoundFrom, Sound, SporadicTests}
+use Rattle.state.proofs.SoundLaws.{noPending, ThreadSound, SoundFrom, Sound, SporadicTests}
 use Rattle.state.proofs.SoundLaws.ThreadSound.{absent, fifo, rr, sporadic}
 use Rattle.ticks.specs.Running.{level, head, idles}
 use Rattle.ticks.proofs.RunLaws.{by-two}
-use Rattle.moments.specs.Changes.{withLists, withAccount, sentTo, withOutcome}
-use Rattle.moments.specs.Moments.{quantumEnded, limitsOf, limits, replenish, replenishBelow, fire}
+use Rattle.moments.specs.Changes.{withLists, withAccount, sentTo, withEffect}
+use Rattle.moments.specs.Moments.{quantumEnded, limitsOf, limits, firstReturned, replenish, replenishBelow, fire}
 use Rattle.moments.proofs.ChangeLaws.{withBound, changed}
 
 -- other bounds that are the same below 32
@@ -73,109 +74,103 @@ module _ (lo : ℕ → ℕ) (s : State) (h : SoundFrom lo s) (i : ℕ) (l : i < 
         ≡ cond (isBlocked (threadAt s i)) 0 (cond (atUpper (threadAt s i .parameters) (y .capacity) c) (threadAt s i .parameters .priority) (threadAt s i .parameters .low))
     place-by c y = ap (λ (k : ℕ). cond (isBlocked (threadAt s i)) 0 k) (by-two (threadAt s i .parameters .policy) _ _ _ z)
 
-    put : (x : ℕ) (o : Outcome) (y : Place) (b : Bool) → o .place ≡ y
-        → AccountSound (s .header .start) (s .now) x b (threadAt s i .parameters) (o .account) → runsUpper (isBlocked (threadAt s i)) (threadAt s i .parameters) (o .account) ≡ b
-        → ListsSound (withPlace (place s) i (placeOf (withServer (o .account .server) (threadAt s i)) (o .account .pending .count)))
-        (occupancy (sentTo y i (threadAt s i .parameters) (s .lists))) (sentTo y i (threadAt s i .parameters) (s .lists))
-        → SoundFrom (withBound lo i x) (withOutcome i o s)
-    put x o y b p q u m =
-        subst⁻¹ (λ (y : Place). SoundFrom (withBound lo i x) (withLists (sentTo y i (threadAt s i .parameters) (s .lists)) (withAccount i (threadAt s i) (o .account) s))) p
-        (changed lo s h i l (threadAt s i) (o .account) x (omega (tests, q .duePlaces .0)) (omega (tests, q .amountPlaces .0))
-        (sporadic n z g a (subst⁻¹ (λ (c : Bool). AccountSound (s .header .start) (s .now) x c (threadAt s i .parameters) (o .account)) u q))
+    -- the account after an effect, and the thread's list then
+    abbrev after : Effect → Account
+    after e = applied e (accountAt s i)
+
+    abbrev placed : Effect → ℕ
+    placed e = placeOf (withServer (e .server) (threadAt s i)) (after e .pending .count)
+
+    put : (x : ℕ) (e : Effect) (y : Place) (b : Bool) → e .place ≡ y
+        → AccountSound (s .header .start) (s .now) x b (threadAt s i .parameters) (after e) → runsUpper (isBlocked (threadAt s i)) (threadAt s i .parameters) (after e) ≡ b
+        → ListsSound (withPlace (place s) i (placed e)) (occupancy (sentTo y i (threadAt s i .parameters) (s .lists))) (sentTo y i (threadAt s i .parameters) (s .lists))
+        → SoundFrom (withBound lo i x) (withEffect i e s)
+    put x e y b p q u m =
+        subst⁻¹ (λ (y : Place). SoundFrom (withBound lo i x) (withLists (sentTo y i (threadAt s i .parameters) (s .lists)) (withAccount i (threadAt s i) (after e) s))) p
+        (changed lo s h i l (threadAt s i) (after e) x (omega (tests, q .duePlaces .0)) (omega (tests, q .amountPlaces .0))
+        (sporadic n z g a (subst⁻¹ (λ (c : Bool). AccountSound (s .header .start) (s .now) x c (threadAt s i .parameters) (after e)) u q))
         refl (sentTo y i (threadAt s i .parameters) (s .lists)) m)
 
-    -- it stays: its place is what it was
+    -- it stays: its list is what it was
     same-place : (b x y : Bool) (j k : ℕ) → cond b false x ≡ cond b false y → cond b 0 (cond x j k) ≡ cond b 0 (cond y j k)
     same-place true x y j k e = refl
     same-place false x y j k e = ap (λ (c : Bool). cond c j k) e
 
-    unmoved : (o : Outcome) → runsUpper (isBlocked (threadAt s i)) (threadAt s i .parameters) (o .account) ≡ runsUpper (isBlocked (threadAt s i)) (threadAt s i .parameters) (accountAt s i)
-        → ListsSound (withPlace (place s) i (placeOf (withServer (o .account .server) (threadAt s i)) (o .account .pending .count))) (occupancy (s .lists)) (s .lists)
-    unmoved o u =
-        subst (λ (w : ℕ). ListsSound (withPlace (place s) i (placeOf (withServer (o .account .server) (threadAt s i)) (o .account .pending .count))) w (s .lists)) (h .lists .agrees)
-        (sound-same (place s) (withPlace (place s) i (placeOf (withServer (o .account .server) (threadAt s i)) (o .account .pending .count))) (s .word) (s .lists)
-        (λ j m. go j (ℕ-discrete j i)) (h .lists))
+    unmoved : (e : Effect) → runsUpper (isBlocked (threadAt s i)) (threadAt s i .parameters) (after e) ≡ runsUpper (isBlocked (threadAt s i)) (threadAt s i .parameters) (accountAt s i)
+        → ListsSound (withPlace (place s) i (placed e)) (occupancy (s .lists)) (s .lists)
+    unmoved e u =
+        subst (λ (w : ℕ). ListsSound (withPlace (place s) i (placed e)) w (s .lists)) (h .lists .agrees)
+        (sound-same (place s) (withPlace (place s) i (placed e)) (s .word) (s .lists) (λ j m. go j (ℕ-discrete j i)) (h .lists))
       where
-        go : (j : ℕ) → Dec (j ≡ i) → withPlace (place s) i (placeOf (withServer (o .account .server) (threadAt s i)) (o .account .pending .count)) j ≡ place s j
-        go j (yes e) =
-            cond-true (eqb j i) _ _ (eq-eqb j i e)
-            ∙ place-by (o .account .pending .count) (o .account .server)
+        go : (j : ℕ) → Dec (j ≡ i) → withPlace (place s) i (placed e) j ≡ place s j
+        go j (yes f) =
+            cond-true (eqb j i) _ _ (eq-eqb j i f)
+            ∙ place-by (after e .pending .count) (e .server)
             ∙ same-place (isBlocked (threadAt s i)) _ _ (threadAt s i .parameters .priority) (threadAt s i .parameters .low) u
             ∙ sym (place-by (getD (s .counts) i 0) (threadAt s i .server))
-            ∙ ap (place s) (sym e)
-        go j (no e) = cond-false (eqb j i) _ _ (ne-eqb j i e)
+            ∙ ap (place s) (sym f)
+        go j (no f) = cond-false (eqb j i) _ _ (ne-eqb j i f)
 
-    back : (x : ℕ) (o : Outcome) → Returned (s .header .start) (s .now) x (isBlocked (threadAt s i)) (threadAt s i .parameters) (accountAt s i) o → SoundFrom (withBound lo i x) (withOutcome i o s)
-    back x o (stays p q u) = put x o Stays (runsUpper (isBlocked (threadAt s i)) (threadAt s i .parameters) (accountAt s i)) p q u (unmoved o u)
-    back x o (raised p w u q r) =
-        put x o Upper true p q (cond-false (isBlocked (threadAt s i)) false _ w ∙ r)
+    back : (x : ℕ) (e : Effect) → Returned (s .header .start) (s .now) x (isBlocked (threadAt s i)) (threadAt s i .parameters) (accountAt s i) e → SoundFrom (withBound lo i x) (withEffect i e s)
+    back x e (stays p q u) = put x e Stays (runsUpper (isBlocked (threadAt s i)) (threadAt s i .parameters) (accountAt s i)) p q u (unmoved e u)
+    back x e (raised p w u q r) =
+        put x e Upper true p q (cond-false (isBlocked (threadAt s i)) false _ w ∙ r)
         (subst⁻¹ (λ (y : ℕ). ListsSound (withPlace (place s) i y) (occupancy (moved i (threadAt s i .parameters .low) (threadAt s i .parameters .priority) (s .lists)))
         (moved i (threadAt s i .parameters .low) (threadAt s i .parameters .priority) (s .lists)))
-        (place-by (o .account .pending .count) (o .account .server) ∙ cond-false (isBlocked (threadAt s i)) 0 _ w ∙ cond-true _ (threadAt s i .parameters .priority) (threadAt s i .parameters .low) r)
+        (place-by (after e .pending .count) (e .server) ∙ cond-false (isBlocked (threadAt s i)) 0 _ w ∙ cond-true _ (threadAt s i .parameters .priority) (threadAt s i .parameters .low) r)
         (move-sound (place s) (s .word) (s .lists) (h .lists) i l (threadAt s i .parameters .low) (threadAt s i .parameters .priority) (omega (tests, g)) (omega (tests, g))
         (place-by (getD (s .counts) i 0) (threadAt s i .server) ∙ cond-false (isBlocked (threadAt s i)) 0 _ w ∙ cond-false _ (threadAt s i .parameters .priority) (threadAt s i .parameters .low) u)
         (omega (tests, g)) (omega (tests, g))))
 
-    returned : SoundFrom (withBound lo i (s .now)) (withOutcome i (returning (s .now) (isBlocked (threadAt s i)) (threadAt s i .parameters) (accountAt s i)) s)
-    returned =
-        back (s .now) (returning (s .now) (isBlocked (threadAt s i)) (threadAt s i .parameters) (accountAt s i))
-        (return-sound (s .header .start) (s .now) (lo i) (isBlocked (threadAt s i)) (threadAt s i .parameters) (accountAt s i) v (omega (tests, h .sizes)) (omega (tests, g)))
+  -- the first entry comes back: dues are no earlier than before
+  module _ (c : 0 < getD (s .counts) i 0) where
+    pub first-counted-at : getD (firstReturned i s .counts) i 0 ≡ getD (s .counts) i 0 - 1
+    first-counted-at =
+        getD-set-same (s .counts) i _ 0 (omega (tests, h .sizes)) ∙ first-counted (s .now) (isBlocked (threadAt s i)) (threadAt s i .parameters) (accountAt s i) c
 
-    -- the first alone: dues are no earlier than before
-    returned-first : firstIsDue (s .now) (pendingAt s i) ≡ true
-        → SoundFrom (withBound lo i (lo i)) (withOutcome i (returnedFirst (s .now) (isBlocked (threadAt s i)) (threadAt s i .parameters) (accountAt s i)) s)
-    returned-first e =
-        back (lo i) (returnedFirst (s .now) (isBlocked (threadAt s i)) (threadAt s i .parameters) (accountAt s i))
-        (first-sound (s .header .start) (s .now) (lo i) (isBlocked (threadAt s i)) (threadAt s i .parameters) (accountAt s i) v e (omega (tests, h .sizes)) (omega (tests, g)))
+    pub first-returned-sound : SoundFrom lo (firstReturned i s)
+    first-returned-sound = bounds-same (withBound lo i (lo i)) lo (firstReturned i s) (go (h .each i l)) (λ j m. same j (eqb j i) refl)
+      where
+        none : pendingAt s i ≡ noPending → {A : Type 0} → A
+        none q = absurd (omega (arith, ap (λ (q : Pending). q .count) q))
 
-  -- then a thread has capacity and room
-  pub first-back-upper : firstIsDue (s .now) (pendingAt s i) ≡ true → isUpper (threadAt s i .parameters) (firstBack (threadAt s i .parameters) (accountAt s i)) ≡ true
-  first-back-upper e = go (h .each i l)
-    where
-      go : ThreadSound (s .header .start) (s .now) (lo i) (ltb i (s .header .n)) (threadAt s i) (pendingAt s i)
-          → isUpper (threadAt s i .parameters) (firstBack (threadAt s i .parameters) (accountAt s i)) ≡ true
-      go (absent n t q) = absurd (omega (arith, due-some (s .now) (threadAt s i .parameters) (accountAt s i) e, ap (λ (q : Pending). q .count) q))
-      go (fifo n z g a v q) = absurd (omega (arith, due-some (s .now) (threadAt s i .parameters) (accountAt s i) e, ap (λ (q : Pending). q .count) q))
-      go (rr n z g a v q) = absurd (omega (arith, due-some (s .now) (threadAt s i .parameters) (accountAt s i) e, ap (λ (q : Pending). q .count) q))
-      go (sporadic n z g a v) = back-upper (s .header .start) (s .now) (lo i) _ (threadAt s i .parameters) (accountAt s i) v e (omega (tests, g))
+        go : ThreadSound (s .header .start) (s .now) (lo i) (ltb i (s .header .n)) (threadAt s i) (pendingAt s i) → SoundFrom (withBound lo i (lo i)) (firstReturned i s)
+        go (absent n t q) = none q
+        go (fifo n z g a v q) = none q
+        go (rr n z g a v q) = none q
+        go (sporadic n z g a v) =
+            back n z g a v (lo i) (returnFirst (s .now) (isBlocked (threadAt s i)) (threadAt s i .parameters) (accountAt s i))
+            (return-sound (s .header .start) (s .now) (lo i) (isBlocked (threadAt s i)) (threadAt s i .parameters) (accountAt s i) v c (omega (tests, h .sizes)) (omega (tests, g)))
 
-  -- the first that is due comes back
-  pub first-back-sound : firstIsDue (s .now) (pendingAt s i) ≡ true
-      → SoundFrom (withBound lo i (lo i)) (withOutcome i (returnedFirst (s .now) (isBlocked (threadAt s i)) (threadAt s i .parameters) (accountAt s i)) s)
-  first-back-sound e = go (h .each i l)
-    where
-      go : ThreadSound (s .header .start) (s .now) (lo i) (ltb i (s .header .n)) (threadAt s i) (pendingAt s i)
-          → SoundFrom (withBound lo i (lo i)) (withOutcome i (returnedFirst (s .now) (isBlocked (threadAt s i)) (threadAt s i .parameters) (accountAt s i)) s)
-      go (absent n t q) = absurd (omega (arith, due-some (s .now) (threadAt s i .parameters) (accountAt s i) e, ap (λ (q : Pending). q .count) q))
-      go (fifo n z g a v q) = absurd (omega (arith, due-some (s .now) (threadAt s i .parameters) (accountAt s i) e, ap (λ (q : Pending). q .count) q))
-      go (rr n z g a v q) = absurd (omega (arith, due-some (s .now) (threadAt s i .parameters) (accountAt s i) e, ap (λ (q : Pending). q .count) q))
-      go (sporadic n z g a v) = returned-first n z g a v e
+        same : (j : ℕ) (b : Bool) → eqb j i ≡ b → lo j ≡ cond b (lo i) (lo j)
+        same j true e = ap lo (eqb-true j i e)
+        same j false e = refl
 
-  pub replenish-sound : SoundFrom (withBound lo i (s .now)) (replenish i s)
-  unfolding replenish
-  replenish-sound = cond-elim (SoundFrom (withBound lo i (s .now))) (firstIsDue (s .now) (pendingAt s i)) _ s (λ e. due e (h .each i l)) skipped
-    where
-      due : firstIsDue (s .now) (pendingAt s i) ≡ true → ThreadSound (s .header .start) (s .now) (lo i) (ltb i (s .header .n)) (threadAt s i) (pendingAt s i)
-          → SoundFrom (withBound lo i (s .now)) (withOutcome i (returning (s .now) (isBlocked (threadAt s i)) (threadAt s i .parameters) (accountAt s i)) s)
-      due e (absent n t q) = absurd (omega (arith, due-some (s .now) (threadAt s i .parameters) (accountAt s i) e, ap (λ (q : Pending). q .count) q))
-      due e (fifo n z g a v q) = absurd (omega (arith, due-some (s .now) (threadAt s i .parameters) (accountAt s i) e, ap (λ (q : Pending). q .count) q))
-      due e (rr n z g a v q) = absurd (omega (arith, due-some (s .now) (threadAt s i .parameters) (accountAt s i) e, ap (λ (q : Pending). q .count) q))
-      due e (sporadic n z g a v) = returned n z g a v
+-- all that is due comes back, and then dues are after now
+pub replenish-sound : (k : ℕ) (lo : ℕ → ℕ) (s : State) → SoundFrom lo s → (i : ℕ) → i < 32 → getD (s .counts) i 0 ≤ k → SoundFrom (withBound lo i (s .now)) (replenish k i s)
+unfolding replenish
+replenish-sound zero lo s h i l n = skipped lo s h i l (rw (le-ltb 0 (getD (s .counts) i 0) (omega arith)) refl)
+replenish-sound (suc k) lo s h i l n =
+    cond-elim (SoundFrom (withBound lo i (s .now))) (firstIsDue (s .now) (pendingAt s i)) (replenish k i (firstReturned i s)) s
+    (λ e. let c = due-some (s .now) (pendingAt s i) e in
+    replenish-sound k lo (firstReturned i s) (first-returned-sound lo s h i l c) i l (omega (arith, first-counted-at lo s h i l c)))
+    (skipped lo s h i l)
 
 -- ---- what a moment's work keeps
 
-module _ {A : Type 0} (f : State → A) (fo : (i : ℕ) (o : Outcome) (s : State) → f (withOutcome i o s) ≡ f s)
+module _ {A : Type 0} (f : State → A) (fo : (i : ℕ) (e : Effect) (s : State) → f (withEffect i e s) ≡ f s)
     (fq : (p i : ℕ) (s : State) → f (quantumEnded p i (threadAt s i) s) ≡ f s) where
-  pub keeps-replenish : (i : ℕ) (s : State) → f (replenish i s) ≡ f s
+  pub keeps-replenish : (k i : ℕ) (s : State) → f (replenish k i s) ≡ f s
   unfolding replenish
-  keeps-replenish i s =
-      cond-elim (λ (u : State). f u ≡ f s) (firstIsDue (s .now) (pendingAt s i)) _ s
-      (λ e. fo i (returning (s .now) (isBlocked (threadAt s i)) (threadAt s i .parameters) (accountAt s i)) s) (λ e. refl)
+  keeps-replenish zero i s = refl
+  keeps-replenish (suc k) i s =
+      cond-elim (λ (u : State). f u ≡ f s) (firstIsDue (s .now) (pendingAt s i)) (replenish k i (firstReturned i s)) s
+      (λ e. keeps-replenish k i (firstReturned i s) ∙ fo i (returnFirst (s .now) (isBlocked (threadAt s i)) (threadAt s i .parameters) (accountAt s i)) s) (λ e. refl)
 
   pub keeps-below : (n : ℕ) (s : State) → f (replenishBelow n s) ≡ f s
   unfolding replenishBelow
   keeps-below zero s = refl
-  keeps-below (suc n) s = keeps-replenish n (replenishBelow n s) ∙ keeps-below n s
+  keeps-below (suc n) s = let u = replenishBelow n s in keeps-replenish (getD (u .counts) n 0) n u ∙ keeps-below n s
 
   pub keeps-limits : (s : State) → f (limits s) ≡ f s
   unfolding limits
@@ -185,7 +180,7 @@ module _ {A : Type 0} (f : State → A) (fo : (i : ℕ) (o : Outcome) (s : State
       (λ e. policy-elim (λ (u : State). f u ≡ f s) (t .parameters .policy) _ _ _
       (λ c. refl)
       (λ c. cond-elim (λ (u : State). f u ≡ f s) (eqb (t .left) 0) (quantumEnded (level s) (head s) t s) s (λ d. fq (level s) (head s) s) (λ d. refl))
-      (λ c. cond-elim (λ (u : State). f u ≡ f s) (eqb (level s) (t .parameters .priority) && eqb (t .server .capacity) 0) _ s (λ d. fo (head s) (limitReached (s .now) false (t .parameters) (accountAt s (head s))) s) (λ d. refl)))
+      (λ c. cond-elim (λ (u : State). f u ≡ f s) (eqb (level s) (t .parameters .priority) && eqb (t .server .capacity) 0) _ s (λ d. fo (head s) (limitEffect (s .now) false (t .parameters) (t .server)) s) (λ d. refl)))
 
   pub keeps-fire : (s : State) → f (fire s) ≡ f s
   unfolding fire
@@ -212,8 +207,8 @@ below-sound lo zero s l h = bounds-same lo (turns (s .now) 0 lo) s h (λ i m. co
 below-sound lo (suc n) s l h =
     let u = replenishBelow n s in
     let e = now-below n s in
-    bounds-same (withBound (turns (s .now) n lo) n (u .now)) (turns (s .now) (suc n) lo) (replenish n u)
-    (replenish-sound (turns (s .now) n lo) u (below-sound lo n s (omega arith) h) n (omega arith)) (λ i m. go i (ℕ-discrete i n) e)
+    bounds-same (withBound (turns (s .now) n lo) n (u .now)) (turns (s .now) (suc n) lo) (replenish (getD (u .counts) n 0) n u)
+    (replenish-sound (getD (u .counts) n 0) (turns (s .now) n lo) u (below-sound lo n s (omega arith) h) n (omega arith) (omega arith)) (λ i m. go i (ℕ-discrete i n) e)
   where
     go : (i : ℕ) → Dec (i ≡ n) → replenishBelow n s .now ≡ s .now → turns (s .now) (suc n) lo i ≡ withBound (turns (s .now) n lo) n (replenishBelow n s .now) i
     go i (yes c) e = cond-true (ltb i (suc n)) _ _ (lt-ltb i (suc n) (omega arith)) ∙ sym e ∙ sym (cond-true (eqb i n) _ _ (eq-eqb i n c))

@@ -1,6 +1,6 @@
 -- The next due where one thread's entries change: what is found again without a search.
 use Prim.Native.Nat.{ℕ, _*_, _≤_, _<_}
-use mathlib.Core.Bool.{Bool, true, false, cond, _&&_}
+use mathlib.Core.Bool.{Bool, true, false, cond}
 use mathlib.Core.Path.{_≡_, refl, sym, ap, _∙_, subst⁻¹}
 use mathlib.Core.List.{List}
 use lib.ListN.{length, getD, set, length-set}
@@ -9,12 +9,10 @@ use lib.Dec.{ltb, eqb}
 use native.Mathlib.Omega.{arith}
 use native.Mathlib.Decide.{ℕ-discrete}
 use borrow.Author.Tests.{eq-eqb, ne-eqb, eqb-true, eqb-false, ltb-true, ltb-false}
-use Rattle.records.specs.declared.Parameters.{Parameters}
-use Rattle.records.proofs.TestLaws.{cond-elim}
 use Rattle.account.specs.declared.Pending.{Pending}
-use Rattle.account.specs.declared.Account.{Account}
-use Rattle.account.specs.declared.Outcome.{Outcome}
-use Rattle.account.specs.Rules.{dueNow, withEntry, scheduled, limitReached}
+use Rattle.account.specs.declared.Effect.{Effect}
+use Rattle.account.specs.Rules.{pendingAfter}
+use Rattle.account.proofs.EntryLaws.{added-elim}
 use Rattle.rows.specs.Rows.{withRow}
 use Rattle.ticks.specs.declared.Due.{Due}
 use Rattle.ticks.specs.Running.{sooner, nextDue}
@@ -202,21 +200,8 @@ module _ (counts dues : List ℕ) (n k : ℕ) (m : n ≤ 32) (l : k < 32) (lc : 
 
 -- ---- what a limit does to the pending entries: none more, or one behind those there
 
-pub limit-pending : (P : Pending → Type 0) (now : ℕ) (p : Parameters) (a : Account) → P (a .pending) → ((due amount : ℕ) → P (withEntry due amount (a .pending)))
-    → P (limitReached now false p a .account .pending)
-unfolding limitReached scheduled
-limit-pending P now p a x y =
-    cond-elim (λ (o : Outcome). P (o .account .pending)) (ltb 0 (a .server .used) && dueNow now p (a .server)) _ _ (λ e. by) (λ e. by)
-  where
-    by : P (scheduled now p a .pending)
-    by =
-        cond-elim (λ (b : Account). P (b .pending)) (eqb (a .server .used) 0) a _ (λ e. x)
-        (λ e. cond-elim (λ (b : Account). P (b .pending)) (dueNow now p (a .server)) _ _ (λ d. x) (λ d. y _ _))
-
-pub limit-entries : (now : ℕ) (p : Parameters) (a : Account) → length (a .pending .dues) ≡ 8
-    → (length (limitReached now false p a .account .pending .dues) ≡ 8)
-    × (0 < a .pending .count → (0 < limitReached now false p a .account .pending .count) × (getD (limitReached now false p a .account .pending .dues) 0 0 ≡ getD (a .pending .dues) 0 0))
-limit-entries now p a l =
-    limit-pending (λ (q : Pending). (length (q .dues) ≡ 8) × (0 < a .pending .count → (0 < q .count) × (getD (q .dues) 0 0 ≡ getD (a .pending .dues) 0 0))) now p a
-    (l, λ c. (c, refl))
-    (λ due amount. (length-set (a .pending .dues) (a .pending .count) due ∙ l, λ c. (omega arith, getD-set-other (a .pending .dues) (a .pending .count) 0 due 0 (λ e. omega arith))))
+pub limit-entries : (e : Effect) (q : Pending) → e .first ≡ false → length (q .dues) ≡ 8
+    → (length (pendingAfter e q .dues) ≡ 8) × (0 < q .count → (0 < pendingAfter e q .count) × (getD (pendingAfter e q .dues) 0 0 ≡ getD (q .dues) 0 0))
+limit-entries e q f l =
+    added-elim (λ (r : Pending). (length (r .dues) ≡ 8) × (0 < q .count → (0 < r .count) × (getD (r .dues) 0 0 ≡ getD (q .dues) 0 0))) e q f (l, λ c. (c, refl))
+    (length-set (q .dues) (q .count) (e .due) ∙ l, λ c. (omega arith, getD-set-other (q .dues) (q .count) 0 (e .due) 0 (λ z. omega arith)))

@@ -14,13 +14,13 @@ use Rattle.records.proofs.TestLaws.{tests, All, cond-true, cond-false}
 use Rattle.account.specs.declared.Server.{Server}
 use Rattle.account.specs.declared.Pending.{Pending}
 use Rattle.account.specs.declared.Account.{Account}
-use Rattle.account.specs.declared.Outcome.{Outcome}
+use Rattle.account.specs.declared.Effect.{Effect}
 use Rattle.account.specs.declared.Place.{Place}
 use Rattle.account.specs.declared.Place.the-variants.{Low, LowThenUpper}
 use Rattle.account.specs.Account.{isUpper}
-use Rattle.account.specs.Rules.{charged, dueNow, limitReached}
+use Rattle.account.specs.Rules.{charged, applied, limitEffect}
 use Rattle.account.specs.Sound.{runsUpper}
-use Rattle.account.proofs.SoundLaws.{AccountSound, charge-sound, upper-room, Sent, limit-once-sound, limit-later-sound}
+use Rattle.account.proofs.SoundLaws.{AccountSound, charge-sound, upper-room, Sent, limit-sent}
 use Rattle.ready.specs.Lists.{moved}
 use Rattle.ready.specs.Word.{occupancy}
 use Rattle.ready.proofs.Soundness.{ListsSound}
@@ -34,7 +34,7 @@ use Rattle.state.proofs.SoundLaws.{noPending, ThreadSound, SoundFrom, sizeTests
 use Rattle.state.proofs.SoundLaws.ThreadSound.{absent, fifo, rr, sporadic}
 use Rattle.ticks.specs.Running.{level, head, idles, ran, charge}
 use Rattle.ticks.proofs.RunLaws.{by-zero, by-one, by-two}
-use Rattle.moments.specs.Changes.{withLists, withLeft, withAccount, sentTo, withOutcome}
+use Rattle.moments.specs.Changes.{withLists, withLeft, withAccount, sentTo, withEffect}
 use Rattle.moments.specs.Moments.{limitsOf, limits}
 use Rattle.moments.proofs.ChangeLaws.{withBound, totals-set, changed-at, thread-account}
 use Rattle.moments.proofs.ChargeLaws.{Runs, runs, upper-at, ran-upper, first-bound, wait-thread}
@@ -236,16 +236,24 @@ module _ (lo lo′ : ℕ → ℕ) (k : ℕ) (s : State) (h : SoundFrom lo s) (e 
         with-server : Server → Account
         with-server x = record { server = x; pending = pendingAt s (head s) }
 
-    limits-is : limits (ranState k s)
-        ≡ withLists (sentTo (limitReached (s .now + k) false p spent .place) i p (s .lists)) (withAccount i ended (limitReached (s .now + k) false p spent .account) (ranState k s))
-    unfolding i p ended spent
+    -- what the rule does to that thread
+    sent : Effect → State
+    sent e = withLists (sentTo (e .place) i p (s .lists)) (withAccount i ended (applied e spent) (ranState k s))
+
+    limits-is : limits (ranState k s) ≡ sent (limitEffect (s .now + k) false p (spent .server))
+    unfolding i p ended spent sent
     limits-is =
         limits-ran
         ∙ by-two (ended .parameters .policy) _ _ _ z
         ∙ cond-true (eqb (level s) (p .priority) && eqb (ended .server .capacity) 0) _ _ both
-        ∙ ap (λ (a : Account). withOutcome i (limitReached (s .now + k) false p a) (ranState k s)) account-is
-        ∙ ap (λ (t : Thread). withLists (sentTo (limitReached (s .now + k) false p spent .place) i (t .parameters) (s .lists)) (withAccount i t (limitReached (s .now + k) false p spent .account) (ranState k s))) there
+        ∙ ap (λ (v : Server). withEffect i (limitEffect (s .now + k) false p v) (ranState k s)) (ran-upper (level s) k (threadAt s (head s)) z up)
+        ∙ ap (λ (a : Account). withLists (sentTo (limited .place) i (threadAt (ranState k s) i .parameters) (s .lists)) (withAccount i (threadAt (ranState k s) i) (applied limited a) (ranState k s)))
+        account-is
+        ∙ ap (λ (t : Thread). withLists (sentTo (limited .place) i (t .parameters) (s .lists)) (withAccount i t (applied limited spent) (ranState k s))) there
       where
+        limited : Effect
+        limited = limitEffect (s .now + k) false p (charged k (threadAt s (head s) .server))
+
         none : threadAt s (head s) .server .capacity - k ≡ 0
         none = omega arith
 
@@ -255,19 +263,19 @@ module _ (lo lo′ : ℕ → ℕ) (k : ℕ) (s : State) (h : SoundFrom lo s) (e 
             (eq-eqb (ended .server .capacity) 0 (ap (λ (x : Server). x .capacity) (ran-upper (level s) k (threadAt s (head s)) z up) ∙ none))
 
     -- wherever the account's rule sends it
-    sent-sound : (b : Bool) (x : Place) (o : Outcome) → Sent (s .header .start) (s .now + k) (lo′ i) b p x o
+    sent-sound : (b : Bool) (x : Place) (e : Effect) → Sent (s .header .start) (s .now + k) (lo′ i) b p x spent e
         → ListsSound (withPlace (place s) i (cond b (p .priority) (p .low))) (occupancy (sentTo x i p (s .lists))) (sentTo x i p (s .lists))
-        → SoundFrom (withBound lo′ i (lo′ i)) (withLists (sentTo (o .place) i p (s .lists)) (withAccount i ended (o .account) (ranState k s)))
-    unfolding i p ended
-    sent-sound b x o q m =
-        subst⁻¹ (λ (y : Place). SoundFrom (withBound lo′ i (lo′ i)) (withLists (sentTo y i p (s .lists)) (withAccount i ended (o .account) (ranState k s)))) (q .place)
-        (again ended (o .account) (lo′ i) (omega (tests, q .sound .duePlaces .0)) (omega (tests, q .sound .amountPlaces .0))
+        → SoundFrom (withBound lo′ i (lo′ i)) (sent e)
+    unfolding i p ended sent
+    sent-sound b x e q m =
+        subst⁻¹ (λ (y : Place). SoundFrom (withBound lo′ i (lo′ i)) (withLists (sentTo y i p (s .lists)) (withAccount i ended (applied e spent) (ranState k s)))) (q .place)
+        (again ended (applied e spent) (lo′ i) (omega (tests, q .sound .duePlaces .0)) (omega (tests, q .sound .amountPlaces .0))
         (sporadic n z g (by-two (ended .parameters .policy) _ _ _ z ∙ l)
-        (subst⁻¹ (λ (y : Bool). AccountSound (s .header .start) (s .now + k) (lo′ i) y p (o .account)) (cond-false (isBlocked (threadAt s (head s))) false _ (run .awake) ∙ q .upper) (q .sound)))
+        (subst⁻¹ (λ (y : Bool). AccountSound (s .header .start) (s .now + k) (lo′ i) y p (applied e spent)) (cond-false (isBlocked (threadAt s (head s))) false _ (run .awake) ∙ q .upper) (q .sound)))
         refl (sentTo x i p (s .lists))
         (subst⁻¹ (λ (y : ℕ). ListsSound (withPlace (place s) i y) (occupancy (sentTo x i p (s .lists))) (sentTo x i p (s .lists))) here m))
       where
-        here : placeOf (withServer (o .account .server) ended) (o .account .pending .count) ≡ cond b (p .priority) (p .low)
+        here : placeOf (withServer (e .server) ended) (applied e spent .pending .count) ≡ cond b (p .priority) (p .low)
         here =
             cond-false (isBlocked (threadAt s (head s))) 0 _ (run .awake)
             ∙ by-two (ended .parameters .policy) _ _ _ z
@@ -296,17 +304,10 @@ module _ (lo lo′ : ℕ → ℕ) (k : ℕ) (s : State) (h : SoundFrom lo s) (e 
 
     pub limit-sound : SoundFrom (withBound lo′ (head s) (lo′ (head s))) (limits (ranState k s))
     unfolding i p spent
-    limit-sound = subst⁻¹ (SoundFrom (withBound lo′ (head s) (lo′ (head s)))) limits-is (by (dueNow (s .now + k) p (spent .server)) refl)
+    limit-sound =
+        subst⁻¹ (SoundFrom (withBound lo′ (head s) (lo′ (head s)))) limits-is
+        (limit-sent (s .header .start) (s .now + k) p (lo′ i) spent spent-sound (omega (arith, room .0)) (omega arith) (room .1) (omega (tests, h .sizes)) low (omega (tests, g))
+        (λ (e : Effect). SoundFrom (withBound lo′ i (lo′ i)) (sent e)) (λ e q. sent-sound true LowThenUpper e q to-upper) (λ e q. sent-sound false Low e q to-low))
       where
         room : (0 < threadAt s (head s) .server .capacity) × (pendingAt s (head s) .count < p .«max_repl»)
         room = upper-room p (accountAt s i) upper
-
-        by : (b : Bool) → dueNow (s .now + k) p (spent .server) ≡ b
-            → SoundFrom (withBound lo′ i (lo′ i))
-            (withLists (sentTo (limitReached (s .now + k) false p spent .place) i p (s .lists)) (withAccount i ended (limitReached (s .now + k) false p spent .account) (ranState k s)))
-        by true e =
-            sent-sound true LowThenUpper (limitReached (s .now + k) false p spent)
-            (limit-once-sound (s .header .start) (s .now + k) p (lo′ i) spent spent-sound (omega (arith, room .0)) (room .1) (omega (tests, h .sizes)) e) to-upper
-        by false e =
-            sent-sound false Low (limitReached (s .now + k) false p spent)
-            (limit-later-sound (s .header .start) (s .now + k) p (lo′ i) spent spent-sound (omega (arith, room .0)) (room .1) low (omega (tests, g)) (omega arith) e) to-low

@@ -1,5 +1,5 @@
 -- What happens at a moment, in place: the end of a quantum, a limit, and what is due.
-use Prim.Native.Nat.{ℕ, _+_, _-_, _≤_, _<_, _^_}
+use Prim.Native.Nat.{ℕ, _+_, _-_, _≤_, _<_}
 use mathlib.Core.Bool.{Bool, true, false, cond, _&&_}
 use mathlib.Core.Path.{_≡_, refl, sym, ap, _∙_}
 use mathlib.Core.List.{List}
@@ -10,18 +10,17 @@ use native.Mathlib.Omega.{arith}
 use native.Mathlib.Decide.{ℕ-discrete}
 use borrow.Author.Tests.{eq-eqb, ltb-true}
 use Rattle.records.specs.declared.Parameters.{Parameters}
-use Rattle.records.proofs.TestLaws.{tests, All, cond-elim, cond-true, cond-false}
+use Rattle.records.proofs.TestLaws.{tests, All, cond-true, cond-false}
 use Rattle.account.specs.declared.Server.{Server}
 use Rattle.account.specs.declared.Pending.{Pending}
-use Rattle.account.specs.declared.Account.{Account}
-use Rattle.account.specs.declared.Outcome.{Outcome}
+use Rattle.account.specs.declared.Effect.{Effect}
 use Rattle.account.specs.declared.Place.{Place}
 use Rattle.account.specs.declared.Place.the-variants.{Stays, Low, LowThenUpper, Upper}
 use Rattle.account.specs.Account.{atUpper, isUpper}
-use Rattle.account.specs.Rules.{charged, dueNow, scheduled, activated, outcome, limitReached}
+use Rattle.account.specs.Rules.{charged, Schedulable, limitEffect, returnFirst}
+use Rattle.account.proofs.EffectLaws.{limit-elim, at-limit-elim, return-elim}
 use Rattle.account.specs.Sound.{runsUpper}
 use Rattle.account.proofs.SoundLaws.{AccountSound, upper-room}
-use Rattle.account.proofs.ReturnLaws.{returnedFirst}
 use Rattle.ready.specs.Lists.{moved}
 use Rattle.ready.specs.Word.{occupancy}
 use Rattle.ready.specs.Rules.{Movable}
@@ -33,9 +32,9 @@ use Rattle.state.proofs.SoundLaws.{ThreadSound, SoundFrom, SporadicTests}
 use Rattle.state.proofs.SoundLaws.ThreadSound.{absent, fifo, rr, sporadic}
 use Rattle.ticks.specs.Running.{level, head, idles, ran, charge, limitOf, limit, next}
 use Rattle.ticks.proofs.RunLaws.{by-zero, by-one, by-two, by-more, limit-rr, limit-upper, limit-lower}
-use Rattle.moments.specs.Changes.{withOutcome}
+use Rattle.moments.specs.Changes.{withEffect}
 use Rattle.moments.specs.Moments.{quantumEnded, limitsOf, limits}
-use Rattle.moments.proofs.FirstLaws.{backFirst}
+use Rattle.rows.specs.Rows.{rowAt}
 use Rattle.moments.proofs.ChargeLaws.{Runs, runs, upper-at, ran-upper}
 
 -- ---- where the account's rules send a thread
@@ -64,16 +63,10 @@ upper-low e = differ (cc)
 upper-then : Upper ≡ LowThenUpper → ⊥
 upper-then e = differ (cc)
 
-pub limit-not-upper : (now : ℕ) (p : Parameters) (a : Account) → limitReached now false p a .place ≡ Upper → ⊥
-unfolding limitReached
-limit-not-upper now p a =
-    cond-elim (λ (o : Outcome). o .place ≡ Upper → ⊥) (ltb 0 (a .server .used) && dueNow now p (a .server)) (outcome (activated now (scheduled now p a)) LowThenUpper)
-    (outcome (scheduled now p a) Low) (λ e f. then-upper f) (λ e f. low-upper f)
-
-module _ (now : ℕ) (b : Bool) (p : Parameters) (a : Account) where
-  first-by : (P : Place → Type 0) → P Stays → (b ≡ false → isUpper p a ≡ false → P Upper) → P (returnedFirst now b p a .place)
-  first-by P f g =
-      cond-elim (λ (o : Outcome). P (o .place)) b _ _ (λ d. f) (λ d. cond-elim (λ (o : Outcome). P (o .place)) (isUpper p a) _ _ (λ c. f) (λ c. g d c))
+pub limit-not-upper : (now : ℕ) (b : Bool) (p : Parameters) (v : Server) → limitEffect now b p v .place ≡ Upper → ⊥
+limit-not-upper now b p v =
+    let P : Effect → Type 0 = λ e. e .place ≡ Upper → ⊥ in
+    limit-elim now p v b P (λ f. stays-upper f) (at-limit-elim now p v P (λ u f. low-upper f) (λ u d f. then-upper f) (λ u d f. low-upper f))
 
 -- what `send` requires
 pub record Sendable (word i : ℕ) (p : Parameters) (l : List ℕ) (x : Place) : Type 0 where
@@ -177,16 +170,15 @@ module _ (lo : ℕ → ℕ) (s : State) (a : SoundFrom lo s) (p : 0 < next s) (e
     server-is =
         ran-upper (level s) (next s - s .now) (threadAt s (head s)) (sporadic-here .policy) (eq-eqb (level s) (threadAt s (head s) .parameters .priority) at-upper)
 
-    pub limited-is : withOutcome (head s)
-        (limitReached (charge (next s - s .now) s .now) false (threadAt (charge (next s - s .now) s) (head s) .parameters) (accountAt (charge (next s - s .now) s) (head s)))
+    pub limited-is : withEffect (head s)
+        (limitEffect (charge (next s - s .now) s .now) false (threadAt (charge (next s - s .now) s) (head s) .parameters) (threadAt (charge (next s - s .now) s) (head s) .server))
         (charge (next s - s .now) s)
         ≡ limits (charge (next s - s .now) s)
     limited-is =
         sym (limits-are ∙ by-more (threadAt s (head s) .parameters .policy) _ _ _ not-fifo d
         ∙ cond-true (eqb (level s) (threadAt s (head s) .parameters .priority) && eqb (ran (level s) (next s - s .now) (threadAt s (head s)) .server .capacity) 0) _ _
         (both _ _ (eq-eqb (level s) (threadAt s (head s) .parameters .priority) at-upper) (eq-eqb _ 0 (ap (λ (x : Server). x .capacity) server-is ∙ none)))
-        ∙ ap (λ (x : Parameters). withOutcome (head s) (limitReached (s .now + (next s - s .now)) false x (accountAt (charge (next s - s .now) s) (head s))) (charge (next s - s .now) s))
-        (sym (ap (λ (x : Thread). x .parameters) limit-thread)))
+        ∙ ap (λ (x : Thread). withEffect (head s) (limitEffect (s .now + (next s - s .now)) false (x .parameters) (x .server)) (charge (next s - s .now) s)) (sym limit-thread))
       where
         both : (x y : Bool) → x ≡ true → y ≡ true → (x && y) ≡ true
         both true y b c = c
@@ -196,8 +188,8 @@ module _ (lo : ℕ → ℕ) (s : State) (a : SoundFrom lo s) (p : 0 < next s) (e
         none = omega (arith, used-up)
 
     -- what the rule requires
-    pub limited-requires : (accountAt (charge (next s - s .now) s) (head s) .server .activation + threadAt (charge (next s - s .now) s) (head s) .parameters .period < 2 ^ 64)
-        × (0 < accountAt (charge (next s - s .now) s) (head s) .server .used → accountAt (charge (next s - s .now) s) (head s) .pending .count < 8)
+    pub limited-requires : Schedulable (threadAt (charge (next s - s .now) s) (head s) .parameters) (threadAt (charge (next s - s .now) s) (head s) .server)
+        (getD (s .counts) (head s) 0)
     limited-requires =
         let y = sporadic-here in
         let r = upper-room (threadAt s (head s) .parameters) (accountAt s (head s))
@@ -237,22 +229,26 @@ module _ (lo : ℕ → ℕ) (s : State) (a : SoundFrom lo s) (p : 0 < next s) (e
 
 module _ (lo : ℕ → ℕ) (s : State) (a : SoundFrom lo s) (j : ℕ) (l : j < 32) (c : 0 < getD (s .counts) j 0) where
   pub due-sendable : Sendable (s .word) j (threadAt s j .parameters) (s .lists)
-      (backFirst j s .place)
+      (returnFirst (s .now) (isBlocked (threadAt s j)) (threadAt s j .parameters) (accountAt s j) .place)
   due-sendable =
-      first-by (s .now) (isBlocked (threadAt s j)) (threadAt s j .parameters) (accountAt s j) (Sendable (s .word) j (threadAt s j .parameters) (s .lists))
-      (record {
-        stays = λ q. a .lists .agrees;
-        low = λ q. absurd (stays-low q);
-        both = λ q. absurd (stays-then q);
-        upper = λ q. absurd (stays-upper q);
-      })
-      (λ w u. record {
+      return-elim (s .now) (threadAt s j .parameters) (threadAt s j .server) (isBlocked (threadAt s j)) (getD (s .counts) j 0) (getD (rowAt j (s .amounts)) 0 0)
+      (λ (e : Effect). Sendable (s .word) j (threadAt s j .parameters) (s .lists) (e .place)) (λ z. stays) (λ n u. stays)
+      (λ n w u. record {
         stays = λ q. a .lists .agrees;
         low = λ q. absurd (upper-low q);
         both = λ q. absurd (upper-then q);
         upper = λ q. up w u (a .each j l);
       })
     where
+      stays : Sendable (s .word) j (threadAt s j .parameters) (s .lists) Stays
+      stays =
+          record {
+            stays = λ q. a .lists .agrees;
+            low = λ q. absurd (stays-low q);
+            both = λ q. absurd (stays-then q);
+            upper = λ q. absurd (stays-upper q);
+          }
+
       up : isBlocked (threadAt s j) ≡ false → isUpper (threadAt s j .parameters) (accountAt s j) ≡ false
           → ThreadSound (s .header .start) (s .now) (lo j) (ltb j (s .header .n)) (threadAt s j) (pendingAt s j)
           → Movable (s .word) j (threadAt s j .parameters .low) (threadAt s j .parameters .priority) (s .lists)

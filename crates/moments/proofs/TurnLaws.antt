@@ -5,7 +5,7 @@ use Prim.Native.Nat.{ℕ, zero, suc, _+_, _-_, _*_, _≤_, _<_}
 use mathlib.Core.Bool.{Bool, true, false, cond, _&&_}
 use mathlib.Core.Path.{_≡_, refl, sym, ap, _∙_, subst, subst⁻¹}
 use mathlib.Core.List.{List, [], _∷_}
-use lib.ListN.{length, drop, getD, set, length-append, length-drop}
+use lib.ListN.{length, getD, set}
 use lib.Seq.{set-getD}
 use lib.Dec.{ltb, leb, eqb}
 use native.Mathlib.Omega.{arith}
@@ -13,10 +13,13 @@ use native.Mathlib.Decide.{ℕ-discrete}
 use borrow.Author.Tests.{lt-ltb, le-leb, lt-leb, ltb-true, ltb-false}
 use Rattle.records.specs.declared.Header.{Header}
 use Rattle.records.specs.Tests.{byPolicy}
-use Rattle.records.proofs.TestLaws.{tests, cond-elim, cond-false, policy-elim}
+use Rattle.records.proofs.TestLaws.{tests, cond-elim, cond-true, cond-false, policy-elim}
 use Rattle.account.specs.declared.Pending.{Pending}
-use Rattle.account.specs.Account.{isUpper}
-use Rattle.account.specs.Rules.{charged, shifted, withoutFirst, firstIsDue, firstBack, raised}
+use Rattle.account.specs.declared.Effect.{Effect}
+use Rattle.account.specs.Rules.{charged, countAfter, slotsAfter, applied, limitEffect, firstIsDue, returnFirst}
+use Rattle.account.proofs.EffectLaws.{limit-keeps}
+use Rattle.account.proofs.EntryLaws.{slots-length, added-elim}
+use Rattle.account.proofs.ReturnLaws.{first-counted}
 use Rattle.account.specs.Sound.{sum}
 use Rattle.passing.specs.Time.{dueBy}
 use Rattle.passing.proofs.TimeLaws.{due-false, due-yes, advance-rest, advance-due}
@@ -30,15 +33,12 @@ use Rattle.ticks.specs.declared.Due.{Due}
 use Rattle.ticks.specs.Running.{level, head, idles, ran, charge, limit, nextDue, next}
 use Rattle.ticks.proofs.EarlierLaws.{earlier-other}
 use Rattle.ticks.proofs.RunLaws.{charged-none}
-use Rattle.moments.specs.Changes.{withOutcome}
-use Rattle.moments.specs.Moments.{quantumEnded, limitsOf, limits, replenish, replenishBelow, fire, clock, passed}
-use Rattle.moments.proofs.ChangeLaws.{withBound, pending-other}
+use Rattle.moments.specs.Moments.{quantumEnded, limitsOf, limits, firstReturned, replenish, replenishBelow, fire, clock, passed}
+use Rattle.moments.proofs.ChangeLaws.{pending-other}
 use Rattle.moments.proofs.DueLaws.{Found, found, row-first, earlier-right}
 use Rattle.moments.proofs.ChargeLaws.{due-after, wait-thread, next-due, dues-after, limit-later, charged-sound}
 use Rattle.moments.proofs.LimitLaws.{limits-none}
-use Rattle.moments.proofs.FireLaws.{bounds-same, first-back-sound, first-back-upper, keeps-limits}
-use Rattle.moments.proofs.FirstLaws.{backFirst, first-then-rest}
-use Rattle.moments.proofs.InsertLaws.{limit-pending}
+use Rattle.moments.proofs.FireLaws.{bounds-same, first-counted-at, first-returned-sound, keeps-limits}
 use Rattle.moments.proofs.MomentLaws.{before, within-limit, limits-sound, passing}
 
 -- the first due of the state
@@ -74,18 +74,23 @@ nothing-due now q f = go (ℕ-discrete (q .count) 0)
     go (yes e) = ap (λ (n : ℕ). ltb 0 n && leb (getD (q .dues) 0 0) now) e
     go (no e) = rw (lt-ltb 0 (q .count) (omega (arith, e))) (lt-leb (getD (q .dues) 0 0) now (f (omega (arith, e))))
 
-replenish-none : (i : ℕ) (s : State) → firstIsDue (s .now) (pendingAt s i) ≡ false → replenish i s ≡ s
+replenish-none : (k i : ℕ) (s : State) → firstIsDue (s .now) (pendingAt s i) ≡ false → replenish k i s ≡ s
 unfolding replenish
-replenish-none i s e = cond-false (firstIsDue (s .now) (pendingAt s i)) _ _ e
+replenish-none zero i s e = refl
+replenish-none (suc k) i s e = cond-false (firstIsDue (s .now) (pendingAt s i)) _ _ e
+
+replenish-step : (k i : ℕ) (s : State) → firstIsDue (s .now) (pendingAt s i) ≡ true → replenish (suc k) i s ≡ replenish k i (firstReturned i s)
+unfolding replenish
+replenish-step k i s e = cond-true (firstIsDue (s .now) (pendingAt s i)) _ _ e
+
+below-suc : (n : ℕ) (s : State) → replenishBelow (suc n) s ≡ replenish (getD (replenishBelow n s .counts) n 0) n (replenishBelow n s)
+unfolding replenishBelow
+below-suc n s = refl
 
 below-none : (n : ℕ) (s : State) → ((j : ℕ) → j < n → firstIsDue (s .now) (pendingAt s j) ≡ false) → replenishBelow n s ≡ s
 unfolding replenishBelow
 below-none zero s f = refl
-below-none (suc n) s f = ap (replenish n) (below-none n s (λ j l. f j (omega arith))) ∙ replenish-none n s (f n (omega arith))
-
-below-suc : (n : ℕ) (s : State) → replenishBelow (suc n) s ≡ replenish n (replenishBelow n s)
-unfolding replenishBelow
-below-suc n s = refl
+below-none (suc n) s f = ap (λ (u : State). replenish (getD (u .counts) n 0) n u) (below-none n s (λ j l. f j (omega arith))) ∙ replenish-none (getD (s .counts) n 0) n s (f n (omega arith))
 
 -- what is the same below m is the same below n
 below-same : (m n : ℕ) (s u : State) → m ≤ n → replenishBelow m s ≡ replenishBelow m u → replenishBelow n s ≡ replenishBelow n u
@@ -94,7 +99,7 @@ below-same m (suc n) s u l e = go (ℕ-discrete m (suc n)) (λ k. below-same m n
   where
     go : Dec (m ≡ suc n) → (m ≤ n → replenishBelow n s ≡ replenishBelow n u) → replenishBelow (suc n) s ≡ replenishBelow (suc n) u
     go (yes q) f = subst (λ (k : ℕ). replenishBelow k s ≡ replenishBelow k u) q e
-    go (no q) f = below-suc n s ∙ ap (replenish n) (f (omega (arith, q))) ∙ sym (below-suc n u)
+    go (no q) f = below-suc n s ∙ ap (λ (v : State). replenish (getD (v .counts) n 0) n v) (f (omega (arith, q))) ∙ sym (below-suc n u)
 
 -- ---- one replenishment: the first that is due
 
@@ -109,9 +114,6 @@ sum-most [] i x l = omega arith
 sum-most (y ∷ ys) zero x l = omega arith
 sum-most (y ∷ ys) (suc i) x l = omega (arith, sum-most ys i x l)
 
-shifted-length : (xs : List ℕ) → length xs ≡ 8 → length (shifted xs) ≡ 8
-shifted-length xs l = length-append (drop 1 xs) (0 ∷ []) ∙ omega (arith, length-drop 1 xs)
-
 -- at a limit at most one entry is added
 limits-counted : (s : State) → sum (limits s .counts) ≤ sum (s .counts) + 1
 unfolding limits
@@ -123,7 +125,8 @@ limits-counted s =
     (λ c. cond-elim P (eqb (t .left) 0) (quantumEnded (level s) (head s) t s) s (λ d. omega arith) (λ d. omega arith))
     (λ c. cond-elim P (eqb (level s) (t .parameters .priority) && eqb (t .server .capacity) 0) _ s
     (λ d. sum-most (s .counts) (head s) _
-    (limit-pending (λ (q : Pending). q .count ≤ getD (s .counts) (head s) 0 + 1) (s .now) (t .parameters) (accountAt s (head s)) (omega arith) (λ due amount. omega arith)))
+    (added-elim (λ (q : Pending). q .count ≤ getD (s .counts) (head s) 0 + 1) (limitEffect (s .now) false (t .parameters) (t .server)) (pendingAt s (head s))
+    (limit-keeps (s .now) (t .parameters) (t .server) false) (omega arith) (omega arith)))
     (λ d. omega arith)))
 
 module _ (s : State) (h : Mid s) (d : firstOf s .thread ≡ 32 → ⊥) (e : firstOf s .due ≤ s .now) where
@@ -147,66 +150,66 @@ module _ (s : State) (h : Mid s) (d : firstOf s .thread ≡ 32 → ⊥) (e : fir
       rw (lt-ltb 0 (getD (s .counts) (firstOf s .thread) 0) (r .1))
       (le-leb (getD (rowAt (firstOf s .thread) (s .dues)) 0 0) (s .now) (omega (arith, r .2, row-first (firstOf s .thread) (s .dues))))
 
-  -- the state when the first that is due has come back
+  -- the first that is due has come back
+  abbrev back : Effect
+  back =
+      returnFirst (s .now) (isBlocked (threadAt s (firstOf s .thread))) (threadAt s (firstOf s .thread) .parameters) (accountAt s (firstOf s .thread))
+
   abbrev backed : State
-  backed = withOutcome (firstOf s .thread) (backFirst (firstOf s .thread) s) s
+  backed = firstReturned (firstOf s .thread) s
 
-  entries : backFirst (firstOf s .thread) s .account .pending ≡ withoutFirst (pendingAt s (firstOf s .thread))
-  entries = go (isBlocked (threadAt s (firstOf s .thread))) (isUpper (threadAt s (firstOf s .thread) .parameters) (accountAt s (firstOf s .thread)))
-    where
-      go : (b up : Bool) → raised (s .now) b up (firstBack (threadAt s (firstOf s .thread) .parameters) (accountAt s (firstOf s .thread))) .account .pending
-          ≡ withoutFirst (pendingAt s (firstOf s .thread))
-      go true up = refl
-      go false true = refl
-      go false false = refl
+  some : 0 < getD (s .counts) (firstOf s .thread) 0
+  some = f .some d .1
 
-  dues-eight : length (backFirst (firstOf s .thread) s .account .pending .dues) ≡ 8
-  dues-eight =
-      ap (λ (q : Pending). length (q .dues)) entries ∙ shifted-length (rowAt (firstOf s .thread) (s .dues)) (row-length (firstOf s .thread) (s .dues) first-small (omega (tests, h .sizes)))
-
-  amounts-eight : length (backFirst (firstOf s .thread) s .account .pending .amounts) ≡ 8
-  amounts-eight =
-      ap (λ (q : Pending). length (q .amounts)) entries
-      ∙ shifted-length (rowAt (firstOf s .thread) (s .amounts)) (row-length (firstOf s .thread) (s .amounts) first-small (omega (tests, h .sizes)))
+  one-fewer : getD (backed .counts) (firstOf s .thread) 0 ≡ getD (s .counts) (firstOf s .thread) 0 - 1
+  one-fewer = first-counted-at (λ i. s .now - 1) s h (firstOf s .thread) first-small some
 
   pub backed-mid : Mid backed
-  backed-mid =
-      bounds-same (withBound (λ i. s .now - 1) (firstOf s .thread) (s .now - 1)) (λ i. s .now - 1) backed
-      (first-back-sound (λ i. s .now - 1) s h (firstOf s .thread) first-small first-due) (λ i m. go (eqb i (firstOf s .thread)))
-    where
-      go : (b : Bool) → s .now - 1 ≡ cond b (s .now - 1) (s .now - 1)
-      go true = refl
-      go false = refl
+  backed-mid = first-returned-sound (λ i. s .now - 1) s h (firstOf s .thread) first-small some
 
   -- threads below it have nothing due, and what is left comes back as before
   pub backed-same : replenishBelow (s .header .n) backed ≡ replenishBelow (s .header .n) s
   backed-same =
       below-same (suc (firstOf s .thread)) (s .header .n) backed s (omega (arith, first-below))
       (below-suc (firstOf s .thread) backed
-      ∙ ap (replenish (firstOf s .thread)) (below-none (firstOf s .thread) backed still)
-      ∙ first-then-rest s (h .sizes) (firstOf s .thread) first-small first-due (first-back-upper (λ i. s .now - 1) s h (firstOf s .thread) first-small first-due) dues-eight amounts-eight
-      ∙ sym (below-suc (firstOf s .thread) s ∙ ap (replenish (firstOf s .thread)) (below-none (firstOf s .thread) s below)))
+      ∙ ap turn (below-none (firstOf s .thread) backed still)
+      ∙ more (getD (s .counts) (firstOf s .thread) 0) refl
+      ∙ sym (below-suc (firstOf s .thread) s ∙ ap turn (below-none (firstOf s .thread) s below)))
     where
+      turn : State → State
+      turn u = replenish (getD (u .counts) (firstOf s .thread) 0) (firstOf s .thread) u
+
+      more : (n : ℕ) → getD (s .counts) (firstOf s .thread) 0 ≡ n
+          → replenish (getD (backed .counts) (firstOf s .thread) 0) (firstOf s .thread) backed ≡ replenish (getD (s .counts) (firstOf s .thread) 0) (firstOf s .thread) s
+      more zero q = absurd (omega (arith, some))
+      more (suc n) q =
+          let m : getD (backed .counts) (firstOf s .thread) 0 ≡ n = omega (arith, one-fewer) in
+          ap (λ (k : ℕ). replenish k (firstOf s .thread) backed) m ∙ sym (replenish-step n (firstOf s .thread) s first-due) ∙ ap (λ (k : ℕ). replenish k (firstOf s .thread) s) (sym q)
+
       below : (j : ℕ) → j < firstOf s .thread → firstIsDue (s .now) (pendingAt s j) ≡ false
       below j l = nothing-due (s .now) (pendingAt s j) (λ c. omega (arith, f .lowest d j l c, first-now, row-first j (s .dues)))
 
       still : (j : ℕ) → j < firstOf s .thread → firstIsDue (s .now) (pendingAt backed j) ≡ false
       still j l =
           ap (firstIsDue (s .now))
-          (pending-other s (firstOf s .thread) first-small (threadAt s (firstOf s .thread)) (backFirst (firstOf s .thread) s .account) (h .sizes) dues-eight amounts-eight j (λ q. omega arith))
+          (pending-other s (firstOf s .thread) first-small (threadAt s (firstOf s .thread)) (applied back (accountAt s (firstOf s .thread))) (h .sizes)
+          (eight (back .due) (s .dues) (omega (tests, h .sizes))) (eight (back .amount) (s .amounts) (omega (tests, h .sizes))) j (λ q. omega arith))
           ∙ below j l
+        where
+          eight : (x : ℕ) (xs : List ℕ) → length xs ≡ 256 → length (slotsAfter (back .first) (back .amount) (getD (s .counts) (firstOf s .thread) 0) x (rowAt (firstOf s .thread) xs)) ≡ 8
+          eight x xs l =
+              let n = row-length (firstOf s .thread) xs first-small l in
+              slots-length (back .first) (back .amount) (getD (s .counts) (firstOf s .thread) 0) x (rowAt (firstOf s .thread) xs) (omega arith) ∙ n
 
   -- one entry fewer
   pub backed-fewer : sum (backed .counts) < sum (s .counts)
   backed-fewer =
-      let r = f .some d in
+      let i = firstOf s .thread in
       omega (
-        tests,
-        h .sizes,
-        first-small,
-        r .1,
-        ap (λ (q : Pending). q .count) entries,
-        sum-set (s .counts) (firstOf s .thread) (backFirst (firstOf s .thread) s .account .pending .count) (omega (tests, h .sizes, first-small)),
+        arith,
+        some,
+        first-counted (s .now) (isBlocked (threadAt s i)) (threadAt s i .parameters) (accountAt s i) some,
+        sum-set (s .counts) i (countAfter (back .first) (back .amount) (getD (s .counts) i 0)) (omega (tests, h .sizes, first-small)),
       )
 
 -- ---- nothing is due now
@@ -376,8 +379,7 @@ module _ (s₀ s : State) (t : ℕ) (g : Going s₀ t s) where
       pub due-now : firstOf s .due ≤ u .now
       due-now = omega (arith, is-due .0, not-past)
 
-      pub turn-due : Going s₀ t (withOutcome (firstOf s .thread) (backFirst (firstOf s .thread) u) u)
-          × (weight t (withOutcome (firstOf s .thread) (backFirst (firstOf s .thread) u) u) < weight t s)
+      pub turn-due : Going s₀ t (firstReturned (firstOf s .thread) u) × (weight t (firstReturned (firstOf s .thread) u) < weight t s)
       unfolding weight
       turn-due =
           let c = charged-going in (

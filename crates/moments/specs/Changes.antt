@@ -1,21 +1,19 @@
 -- The state with one part changed.
-use Prim.Native.Nat.{ℕ, _+_, _-_}
-use mathlib.Core.Bool.{Bool, cond}
+use Prim.Native.Nat.{ℕ}
 use mathlib.Core.List.{List}
 use lib.ListN.{set}
-use lib.Dec.{eqb}
 use Rattle.records.specs.declared.Parameters.{Parameters}
 use Rattle.account.specs.declared.Account.{Account}
-use Rattle.account.specs.declared.Outcome.{Outcome}
 use Rattle.account.specs.declared.Place.{Place}
 use Rattle.account.specs.declared.Place.the-variants.{Stays, Low, LowThenUpper, Upper}
-use Rattle.account.specs.Rules.{shifted}
+use Rattle.account.specs.declared.Effect.{Effect}
+use Rattle.account.specs.Rules.{applied}
 use Rattle.ready.specs.Lists.{moved}
 use Rattle.ready.specs.Word.{occupancy}
 use Rattle.state.specs.declared.Thread.{Thread}
 use Rattle.state.specs.declared.State.{State}
 use Rattle.rows.specs.Rows.{withRow}
-use Rattle.state.specs.State.{withServer, threadAt}
+use Rattle.state.specs.State.{withServer, threadAt, accountAt}
 
 abbrev pub withThread : ℕ → Thread → State → State
 withThread i t s =
@@ -49,14 +47,6 @@ withLists l s =
 abbrev pub withLeft : ℕ → Thread → Thread
 withLeft n t = record { parameters = t .parameters; blocked = t .blocked; total = t .total; left = n; server = t .server }
 
--- Passing 8 and 9: how many entries there are, and their dues or amounts, after a limit, which adds an amount that is not 0 (x is
--- its due time or the amount), or after the first came back
-abbrev pub countAfter : Bool → ℕ → ℕ → ℕ
-countAfter limited amount count = cond limited (cond (eqb amount 0) count (count + 1)) (count - 1)
-
-abbrev pub rowAfter : Bool → ℕ → ℕ → ℕ → List ℕ → List ℕ
-rowAfter limited amount count x row = cond limited (cond (eqb amount 0) row (set row count x)) (shifted row)
-
 -- another thread and account at place i
 abbrev pub withAccount : ℕ → Thread → Account → State → State
 withAccount i t a s =
@@ -79,6 +69,6 @@ sentTo Low i p l = moved i (p .priority) (p .low) l
 sentTo LowThenUpper i p l = moved i (p .low) (p .priority) (moved i (p .priority) (p .low) l)
 sentTo Upper i p l = moved i (p .low) (p .priority) l
 
--- what an account's rule did to thread i: its account, and its place in the lists
-abbrev pub withOutcome : ℕ → Outcome → State → State
-withOutcome i o s = withLists (sentTo (o .place) i (threadAt s i .parameters) (s .lists)) (withAccount i (threadAt s i) (o .account) s)
+-- what an account's rule does to thread i: its account, and its place in the lists
+abbrev pub withEffect : ℕ → Effect → State → State
+withEffect i e s = withLists (sentTo (e .place) i (threadAt s i .parameters) (s .lists)) (withAccount i (threadAt s i) (applied e (accountAt s i)) s)

@@ -1,16 +1,17 @@
 -- What happens at a moment, and the passing of time.
 use Prim.Native.Nat.{ℕ, zero, suc}
 use mathlib.Core.Bool.{false, cond, _&&_}
+use lib.ListN.{getD}
 use lib.Dec.{eqb}
 use Rattle.records.specs.Tests.{byPolicy}
-use Rattle.account.specs.Rules.{limitReached, firstIsDue, returning}
+use Rattle.account.specs.Rules.{limitEffect, firstIsDue, returnFirst}
 use Rattle.ready.specs.Lists.{moved}
 use Rattle.passing.specs.Time.{Clock, advance}
 use Rattle.state.specs.declared.Thread.{Thread}
 use Rattle.state.specs.declared.State.{State}
 use Rattle.state.specs.State.{isBlocked, threadAt, pendingAt, accountAt}
 use Rattle.ticks.specs.Running.{level, head, idles, charge, next}
-use Rattle.moments.specs.Changes.{withThread, withLists, withLeft, withOutcome}
+use Rattle.moments.specs.Changes.{withThread, withLists, withLeft, withEffect}
 
 -- Passing 7: the quantum has ended: the tail of its list p, with a full quantum
 abbrev pub quantumEnded : ℕ → ℕ → Thread → State → State
@@ -22,23 +23,25 @@ limitsOf p i t s =
     byPolicy (t .parameters .policy) s
     (cond (eqb (t .left) 0) (quantumEnded p i t s) s)
     (cond (eqb p (t .parameters .priority) && eqb (t .server .capacity) 0)
-    (withOutcome i (limitReached (s .now) false (t .parameters) (accountAt s i)) s)
+    (withEffect i (limitEffect (s .now) false (t .parameters) (t .server)) s)
     s)
 
 unfoldable pub limits : State → State
 limits s = cond (idles s) s (limitsOf (level s) (head s) (threadAt s (head s)) s)
 
--- Passing 8: thread i's replenishments that are due now
-unfoldable pub replenish : ℕ → State → State
-replenish i s =
-    cond (firstIsDue (s .now) (pendingAt s i))
-    (withOutcome i (returning (s .now) (isBlocked (threadAt s i)) (threadAt s i .parameters) (accountAt s i)) s)
-    s
+-- Passing 8: the first of thread i's entries comes back
+abbrev pub firstReturned : ℕ → State → State
+firstReturned i s = withEffect i (returnFirst (s .now) (isBlocked (threadAt s i)) (threadAt s i .parameters) (accountAt s i)) s
+
+-- Passing 8: thread i's entries that are due now come back, one after the other, at most k of them
+unfoldable pub replenish : ℕ → ℕ → State → State
+replenish zero i s = s
+replenish (suc k) i s = cond (firstIsDue (s .now) (pendingAt s i)) (replenish k i (firstReturned i s)) s
 
 -- Passing 8: by thread number, of the threads below n
 unfoldable pub replenishBelow : ℕ → State → State
 replenishBelow zero s = s
-replenishBelow (suc n) s = replenish n (replenishBelow n s)
+replenishBelow (suc n) s = let u = replenishBelow n s in replenish (getD (u .counts) n 0) n u
 
 -- Passing 5 to 8: what happens at a moment, in this order
 unfoldable pub fire : State → State

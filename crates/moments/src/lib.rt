@@ -1,25 +1,25 @@
 // The passing of time over the executive's state.
 ghost use mathlib.Core.Path.{_≡_};
 ghost use mathlib.Core.Bool.{true, false, cond};
-ghost use Prim.Native.Nat.{_+_, _<_, _≤_, _^_};
+ghost use Prim.Native.Nat.{_<_, _≤_, _^_};
 ghost use lib.Dec.{eqb};
 ghost use lib.ListN.{length};
-ghost use Rattle.account.specs.Rules.{limitEffect, returnEffect};
+ghost use Rattle.account.specs.Rules.{dueOf, limitEffect, returnEffect, Room, slotsAfter};
 ghost use Rattle.account.specs.declared.Place.the-variants.{Stays, Low, LowThenUpper, Upper};
 ghost use Rattle.ready.specs.Lists.{moved};
 ghost use Rattle.ready.specs.Word.{occupancy};
 ghost use Rattle.ready.specs.Rules.{Movable};
 ghost use Rattle.rows.specs.Rows.{rowAt, withRow};
 ghost use Rattle.state.specs.Sound.{soundState};
+ghost use Rattle.state.specs.State.{isBlocked};
 ghost use Rattle.ticks.specs.Running.{earlier};
-ghost use Rattle.moments.specs.Changes.{withLeft, sentTo, countAfter, rowAfter};
+ghost use Rattle.moments.specs.Changes.{withLeft, sentTo};
 ghost use Rattle.moments.specs.Moments.{passed};
 use account::Effect;
 use account::Place;
 use records::Parameters;
 use state::State;
 use state::Thread;
-ghost use Rattle.state.specs.State.{isBlocked};
 
 // Whether the earlier of the two is the limit: where both fall on one instant, the limit comes first.
 fn limit_first(limit: u64, due: u64) -> bool
@@ -111,44 +111,30 @@ fn concerned(limited: bool, runs: usize, due: usize) -> usize
 
 // What happens to that thread's account: at a limit, or where the first of `count` entries, of this amount, comes back.
 fn effect_at(limited: bool, time: u64, t: Thread, count: u8, amount: u64) -> Effect
-    requires { ⌜ (limited ≡ true → t .server .activation + t .parameters .period < 2 ^ 64) ⌝ }
-    ensures { λ r. ⌜ r ≡ cond limited (limitEffect time (t .parameters) (t .server)) (returnEffect time (isBlocked t) (t .parameters) count amount (t .server)) ⌝ }
+    requires { ⌜ (limited ≡ true → dueOf (t .parameters) (t .server) < 2 ^ 64) ⌝ }
+    ensures { λ r. ⌜ r ≡ cond limited (limitEffect time false (t .parameters) (t .server)) (returnEffect time (isBlocked t) (t .parameters) count amount (t .server)) ⌝ }
 {
     let p = t.parameters;
     let v = t.server;
     if limited {
-        return account::limit_effect(p, v, time);
+        return account::limit_effect(p, v, false, time);
     }
-    account::return_first(p, v, count, amount, 0 < t.blocked, time)
+    account::return_effect(p, v, count, amount, 0 < t.blocked, time)
 }
 
-// How many entries there are then, of `count`: one more where a limit adds an amount, one less where the first came back.
-fn count_after(limited: bool, amount: u64, count: u8) -> u8
-    requires { ⌜ (limited ≡ true → 0 < amount → count < 8) × (limited ≡ false → 0 < count) ⌝ }
-    ensures { λ r. ⌜ r ≡ countAfter limited amount count ⌝ }
+// Thread i's dues or amounts after it: x is the due time or the amount of an entry that came.
+fn change_row(xs: &mut [u64; 256], i: usize, first: bool, amount: u64, count: u8, x: u64)
+    requires { ⌜ (i < 32) × (length (now xs) ≡ 256) × Room first amount count ⌝ }
+    ensures { λ _. ⌜ now (xs .exit) ≡ withRow i (slotsAfter first amount count x (rowAt i (now (xs .entry)))) (now (xs .entry)) ⌝ }
 {
-    if limited {
-        if amount == 0 {
-            return count;
-        }
-        return count + 1;
-    }
-    count - 1
-}
-
-// And thread i's dues or amounts: x is the due time or the amount that a limit adds.
-fn change_row(xs: &mut [u64; 256], i: usize, limited: bool, amount: u64, count: u8, x: u64)
-    requires { ⌜ (i < 32) × (length (now xs) ≡ 256) × (limited ≡ true → 0 < amount → count < 8) ⌝ }
-    ensures { λ _. ⌜ now (xs .exit) ≡ withRow i (rowAfter limited amount count x (rowAt i (now (xs .entry)))) (now (xs .entry)) ⌝ }
-{
-    if limited {
-        if amount == 0 {
-            return;
-        }
-        rows::write_place(xs, i, count, x);
+    if first {
+        rows::shift_row(xs, i);
         return;
     }
-    rows::shift_row(xs, i);
+    if amount == 0 {
+        return;
+    }
+    rows::write_place(xs, i, count, x);
 }
 
 // The state at the time t. Each turn charges the ticks up to the next moment and does one thing that happens at it: the
@@ -194,22 +180,23 @@ pub fn advance(s0: State, t: u64) -> State
         let at = j * 8;
         let w = s.threads[j];
         let count = s.counts[j];
-        let first = s.amounts[at];
-        let e = effect_at(limited, m, w, count, first);
+        let next = s.amounts[at];
+        let e = effect_at(limited, m, w, count, next);
         let place = e.place;
         let served = e.server;
         let due = e.due;
         let amount = e.amount;
+        let first = e.first;
         let parameters = w.parameters;
         let word = s.word;
         let number = narrow(j);
         let changed = state::with_server(w, served);
         s.threads[j] = changed;
         s.word = send(&mut s.lists, word, number, parameters, place);
-        let pending = count_after(limited, amount, count);
+        let pending = account::count_after(first, amount, count);
         s.counts[j] = pending;
-        change_row(&mut s.dues, j, limited, amount, count, due);
-        change_row(&mut s.amounts, j, limited, amount, count, amount);
+        change_row(&mut s.dues, j, first, amount, count, due);
+        change_row(&mut s.amounts, j, first, amount, count, amount);
         if limited {
             let d = s.dues[at];
             x = ticks::after_limit(x, j, count, pending, d);

@@ -2,7 +2,7 @@
 ghost use mathlib.Core.Path.{_≡_};
 ghost use Prim.Native.Nat.{_<_};
 ghost use lib.ListN.{length, getD, set};
-ghost use Rattle.account.specs.Rules.{shifted};
+ghost use Rattle.account.specs.Rules.{withoutFirst};
 ghost use Rattle.rows.specs.Rows.{rowAt, withRow};
 use account::Pending;
 
@@ -46,10 +46,10 @@ pub fn write_place(xs: &mut [u64; 256], i: usize, k: u8, x: u64)
 // Thread i's places, each number one place up; the last place is 0.
 pub fn shift_row(xs: &mut [u64; 256], i: usize)
     requires { ⌜ (i < 32) × (length (now xs) ≡ 256) ⌝ }
-    ensures { λ _. ⌜ now (xs .exit) ≡ withRow i (shifted (rowAt i (now (xs .entry)))) (now (xs .entry)) ⌝ }
+    ensures { λ _. ⌜ now (xs .exit) ≡ withRow i (withoutFirst (rowAt i (now (xs .entry)))) (now (xs .entry)) ⌝ }
 {
     let row = read_row(xs, i);
-    let up = account::shift(row);
+    let up = account::without_first(row);
     write_row(xs, i, up);
 }
 

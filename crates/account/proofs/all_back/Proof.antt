@@ -1,18 +1,20 @@
--- `account::all_back` meets its contract.
-use Prim.Native.Nat.{_-_}
-use mathlib.Core.Path.{_≡_, refl, sym, _∙_}
+-- `account::all_back` meets its contract. The invariant: what is left to come back gives the same account.
+use Rattle.account.proofs.ReturnLaws.{due-some, first-counted, returned-done, returned-more}
+use Rattle.account.proofs.EffectLaws.{return-room}
+use Rattle.account.specs.Rules.{applied, returned}
+use Rattle.account.specs.declared.Effect.{Effect}
 use native.Mathlib.Omega.{arith}
+use lib.ListN.{getD}
+use mathlib.Core.Path.{_≡_, refl, sym, ap, _∙_}
 use borrow.Author.Needs.{needs}
-use Rattle.account.specs.Rules.{allBack}
-use Rattle.account.proofs.RuleLaws.{back-done, back-one, due-some}
 use Rattle.account.proofs.all_back.Statement.{statement}
 use Rattle.account.proofs.all_back.Tie as tie
 
 abbrev Inv-loop : tie.InvT-loop
-Inv-loop p now r₀ r = allBack (r .pending .count) now p r ≡ allBack (r₀ .pending .count) now p r₀
+Inv-loop p blocked now r₀ r = returned (r .pending .count) now blocked p r ≡ returned (r₀ .pending .count) now blocked p r₀
 
 abbrev μ-loop : tie.MeasureT-loop
-μ-loop p now r₀ r = r .pending .count
+μ-loop p blocked now r₀ r = r .pending .count
 
 loop-holds : tie.Need-loop-holds Inv-loop μ-loop
 loop-holds c = refl
@@ -20,28 +22,35 @@ loop-holds c = refl
 first-is-due-requires : tie.Need-first-is-due-requires Inv-loop μ-loop
 first-is-due-requires c κs = search needs
 
-first-back-requires : tie.Need-first-back-requires Inv-loop μ-loop
-first-back-requires c κs =
-    let b = c .before .before .before in
-    due-some (b .before .args .now) (b .before .args .p) (b .loop .r) (sym (c .before .first-is-due .ensures) ∙ c .if1 .taken)
+return-first-requires : tie.Need-return-first-requires Inv-loop μ-loop
+return-first-requires c κs = search needs
+
+apply-requires : tie.Need-apply-requires Inv-loop μ-loop
+apply-requires c κs =
+    let l = c .before .before .before .before in
+    let a = l .before .args in
+    rw (c .return-first .ensures)
+    (return-room (a .now) (a .p) (l .loop .r .server) (a .blocked) (l .loop .r .pending .count) (getD (l .loop .r .pending .amounts) 0 0))
 
 loop-less : tie.Need-loop-less Inv-loop μ-loop
 loop-less c =
-    let b = c .before .before .before .before in
-    let e = sym (c .before .before .first-is-due .ensures) ∙ c .before .if1 .taken in
-    rw (c .first-back .ensures) (omega (arith, due-some (b .before .args .now) (b .before .args .p) (b .loop .r) e))
+    let l = c .before .before .before .before .before in
+    let a = l .before .args in
+    let d = due-some (a .now) (l .loop .r .pending) (sym (c .before .before .before .first-is-due .ensures) ∙ c .before .before .if1 .taken) in
+    rw (c .apply .ensures, c .before .return-first .ensures) (omega (arith, d, first-counted (a .now) (a .blocked) (a .p) (l .loop .r) d))
 
 loop-again : tie.Need-loop-again Inv-loop μ-loop
 loop-again c =
-    let b = c .before .before .before .before in
-    let e = sym (c .before .before .first-is-due .ensures) ∙ c .before .if1 .taken in
-    rw (c .first-back .ensures) (back-one (b .before .args .now) (b .before .args .p) (b .loop .r) e ∙ b .loop .inv)
+    let l = c .before .before .before .before .before in
+    let a = l .before .args in
+    rw (c .apply .ensures ∙ ap (λ (e : Effect). applied e (l .loop .r)) (c .before .return-first .ensures))
+    (returned-more (a .now) (a .blocked) (a .p) (l .loop .r) (sym (c .before .before .before .first-is-due .ensures) ∙ c .before .before .if1 .taken) ∙ l .loop .inv)
 
 returns : tie.Need-returns Inv-loop μ-loop
 returns c =
-    let b = c .before .before .before in
-    let e = sym (c .before .first-is-due .ensures) ∙ c .if1 .left in
-    sym (back-done (b .before .args .now) (b .before .args .p) (b .loop .r) (b .loop .r .pending .count) e) ∙ b .loop .inv
+    let l = c .before .before .before in
+    let a = l .before .args in
+    sym (returned-done (a .now) (a .blocked) (a .p) (l .loop .r) (l .loop .r .pending .count) (sym (c .before .first-is-due .ensures) ∙ c .if1 .left)) ∙ l .loop .inv
 
 pub all-back-spec : {M : Type 1} → statement M
 all-back-spec =
@@ -51,7 +60,8 @@ all-back-spec =
     μ-loop
     loop-holds
     first-is-due-requires
-    first-back-requires
+    return-first-requires
+    apply-requires
     loop-less
     loop-again
     returns)

@@ -1,21 +1,19 @@
 -- `account::block` meets its contract.
+use Rattle.account.proofs.EffectLaws.{block-room}
 use borrow.Author.Needs.{needs}
-use mathlib.Core.Path.{sym, ap, _∙_}
-use Rattle.account.specs.declared.Account.{Account}
-use Rattle.records.proofs.TestLaws.{cond-true, cond-false}
-use Rattle.account.specs.declared.Place.the-variants.{Stays}
-use Rattle.account.specs.Rules.{outcome}
 use Rattle.account.proofs.block.Statement.{statement}
 use Rattle.account.proofs.block.Tie as tie
 
+block-effect-requires : tie.Need-block-effect-requires
+block-effect-requires c κs = search needs
+
+answer-requires : tie.Need-answer-requires
+answer-requires c κs =
+    let o = c .before .before in
+    rw (c .block-effect .ensures) (block-room (o .args .now) (o .args .p) (o .args .a .server) (o .args .blocked) (o .args .a .pending .count) (o .pre))
+
 returns : tie.Need-returns
-returns c = sym (cond-true _ _ _ (c .if1 .taken))
-
-schedule-requires : tie.Need-schedule-requires
-schedule-requires c κs = search needs
-
-returns-2 : tie.Need-returns-2
-returns-2 c = ap (λ (b : Account). outcome b Stays) (c .schedule .ensures) ∙ sym (cond-false _ _ _ (c .before .if1 .left))
+returns c = cc
 
 pub block-spec : {M : Type 1} → statement M
-block-spec = tie.close (tie.spec returns schedule-requires returns-2)
+block-spec = tie.close (tie.spec block-effect-requires answer-requires returns)

@@ -1,26 +1,25 @@
 -- `account::raise` meets its contract.
-use borrow.Author.Needs.{needs}
-use mathlib.Core.Path.{sym, ap, _∙_}
-use Rattle.records.proofs.TestLaws.{cond-true, cond-false}
+use Rattle.records.proofs.TestLaws.{cond-true}
+use Rattle.account.specs.Rules.{sent}
 use Rattle.account.specs.declared.Server.{Server}
-use Rattle.account.specs.declared.Place.the-variants.{Upper}
-use Rattle.account.specs.Rules.{effect}
+use mathlib.Core.Path.{sym, ap, _∙_}
+use borrow.Author.Needs.{needs}
 use Rattle.account.proofs.raise.Statement.{statement}
 use Rattle.account.proofs.raise.Tie as tie
 
+activate-requires : tie.Need-activate-requires
+activate-requires c κs = search needs
+
+send-requires : tie.Need-send-requires
+send-requires c κs = search needs
+
 returns : tie.Need-returns
-returns c = sym (cond-true _ _ _ (c .if1 .taken))
+returns c =
+    let a = c .before .before .before .before .args in
+    c .send .ensures ∙ ap (λ (s : Server). sent (a .x) s (a .e)) (c .before .activate .ensures) ∙ sym (cond-true _ _ _ (c .before .before .before .if1 .taken))
 
 returns-2 : tie.Need-returns-2
-returns-2 c = sym (cond-false _ _ _ (c .before .if1 .left) ∙ cond-true _ _ _ (c .if2 .taken))
-
-activate-server-requires : tie.Need-activate-server-requires
-activate-server-requires c κs = search needs
-
-returns-3 : tie.Need-returns-3
-returns-3 c =
-    ap (λ (s : Server). effect s Upper 0 0) (c .activate-server .ensures)
-    ∙ sym (cond-false _ _ _ (c .before .before .if1 .left) ∙ cond-false _ _ _ (c .before .if2 .left))
+returns-2 c = search needs
 
 pub raise-spec : {M : Type 1} → statement M
-raise-spec = tie.close (tie.spec returns returns-2 activate-server-requires returns-3)
+raise-spec = tie.close (tie.spec activate-requires send-requires returns returns-2)

@@ -9,13 +9,13 @@ use Rattle.account.proofs.replenish.Tie as tie
 abbrev made : ℕ → ℕ → ℕ → Server
 made c u a = record { capacity = c; used = u; activation = a }
 
-held-requires : tie.Need-held-requires
-held-requires c κs = search needs
+up-to-requires : tie.Need-up-to-requires
+up-to-requires c κs = search needs
 
 returns : tie.Need-returns
 returns c =
     let s = c .before .args .s in
-    ap (λ (n : ℕ). made n (s .used) (s .activation)) (c .held .ensures)
+    ap (λ (n : ℕ). made n (s .used) (s .activation)) (c .up-to .ensures)
 
 pub replenish-spec : {M : Type 1} → statement M
-replenish-spec = tie.close (tie.spec held-requires returns)
+replenish-spec = tie.close (tie.spec up-to-requires returns)

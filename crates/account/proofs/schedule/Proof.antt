@@ -1,28 +1,53 @@
 -- `account::schedule` meets its contract.
-use borrow.Author.Needs.{needs}
-use mathlib.Core.Path.{sym, ap, _∙_}
-use native.Mathlib.Omega.{arith}
+use mathlib.Core.Bool.{false}
+use Rattle.account.specs.declared.Place.the-variants.{Stays}
 use Rattle.account.specs.declared.Effect.{Effect}
-use Rattle.account.proofs.RuleLaws.{made}
-use Rattle.account.proofs.EffectLaws.{after, schedule-amount, schedule-is}
+use Rattle.account.specs.declared.Server.{Server}
+use mathlib.Core.Path.{sym, ap, _∙_}
+use borrow.Author.Tests.{eq-eqb, ne-eqb}
+use Rattle.records.proofs.TestLaws.{cond-true, cond-false}
+use Rattle.account.specs.Rules.{scheduled}
+use borrow.Author.Needs.{needs}
 use Rattle.account.proofs.schedule.Statement.{statement}
 use Rattle.account.proofs.schedule.Tie as tie
 
-schedule-effect-requires : tie.Need-schedule-effect-requires
-schedule-effect-requires c κs = search needs
-
-add-requires : tie.Need-add-requires
-add-requires c κs =
-    let s = c .before .before .before .before in
-    λ h. s .pre .1 (omega (arith, ap (λ (x : Effect). x .amount) (c .before .schedule-effect .ensures), schedule-amount (s .args .now) (s .args .p) (s .args .a .server)))
+nothing-requires : tie.Need-nothing-requires
+nothing-requires c κs = search needs
 
 returns : tie.Need-returns
-returns c =
+unfolding scheduled
+returns c = c .nothing .ensures ∙ sym (cond-true _ _ _ (eq-eqb _ 0 (c .before .if1 .taken)))
+
+due-by-requires : tie.Need-due-by-requires
+due-by-requires c κs = search needs
+
+replenish-requires : tie.Need-replenish-requires
+replenish-requires c κs = search needs
+
+returns-2 : tie.Need-returns-2
+unfolding scheduled
+returns-2 c =
     let a = c .before .before .before .before .before .args in
-    let e = c .before .before .schedule-effect in
-    ap (made (e .result .server)) (c .add .ensures)
-    ∙ ap (after (a .now) (a .p) (a .a .server) (a .a .pending)) (e .ensures)
-    ∙ sym (schedule-is (a .now) (a .p) (a .a .server) (a .a .pending))
+    let back : Server → Effect = λ v. record { server = v; place = Stays; due = 0; amount = 0; back = a .s .used; first = false } in
+    ap back (c .replenish .ensures)
+    ∙ sym (cond-false _ _ _ (ne-eqb _ 0 (c .before .before .before .if1 .left)) ∙ cond-true _ _ _ (sym (c .before .before .due-by .ensures) ∙ c .before .if2 .taken))
+
+add-t10 : tie.Need-add-t10
+add-t10 c = search needs
+
+returns-3 : tie.Need-returns-3
+unfolding scheduled
+returns-3 c =
+    sym (cond-false _ _ _ (ne-eqb _ 0 (c .before .before .before .before .if1 .left)) ∙ cond-false _ _ _ (sym (c .before .before .before .due-by .ensures) ∙ c .before .before .if2 .left))
 
 pub schedule-spec : {M : Type 1} → statement M
-schedule-spec = tie.close (tie.spec schedule-effect-requires add-requires returns)
+schedule-spec =
+    tie.close
+    (tie.spec
+    nothing-requires
+    returns
+    due-by-requires
+    replenish-requires
+    returns-2
+    add-t10
+    returns-3)

@@ -7,7 +7,7 @@ use native.Mathlib.Omega.{arith}
 use lib.Dec.{eqb}
 use borrow.Author.Tests.{eqb-true, not-true, not-false}
 use Rattle.records.proofs.TestLaws.{tests, false-true}
-use Rattle.account.specs.declared.Outcome.{Outcome}
+use Rattle.account.specs.Rules.{Room}
 use Rattle.passing.specs.Time.{dueBy}
 use Rattle.state.specs.declared.State.{State}
 use Rattle.state.specs.State.{threadAt}
@@ -17,7 +17,7 @@ use Rattle.moments.proofs.TurnLaws.{weight, start}
 use Rattle.moments.proofs.SeenLaws.{seen-held, top-small, thread-fits}
 use Rattle.moments.proofs.StepLaws.{Sendable}
 use Rattle.moments.proofs.AdvanceLaws.{Between, Turn, Ticked, tickedState, Chosen, Acted, Put, rest-fits, rest-idle, last, not-before, moment-fits, moment-idle}
-use Rattle.moments.proofs.AdvanceLaws.{ended-movable, ended-turn, number-small, limit-requires, some-pending, ruled, acts, leaves, rule-leaves, room, limit-due, put-going, put-falls, put-later}
+use Rattle.moments.proofs.AdvanceLaws.{ended-movable, ended-turn, number-small, limit-requires, acts, room, limit-due, put-going, put-falls, put-later}
 use Rattle.moments.proofs.advance.Statement.{statement}
 use Rattle.moments.proofs.advance.Tie as tie
 
@@ -271,11 +271,11 @@ element-copy-out-w c = small c
 element-copy-out-count : tie.Need-element-copy-out-count Inv-loop μ-loop
 element-copy-out-count c = small (c .before)
 
-mul-first : tie.Need-mul-first Inv-loop μ-loop
-mul-first c = omega (arith, small (c .before .before))
+mul-next : tie.Need-mul-next Inv-loop μ-loop
+mul-next c = omega (arith, small (c .before .before))
 
-element-copy-out-first : tie.Need-element-copy-out-first Inv-loop μ-loop
-element-copy-out-first c = omega (arith, small (c .before .before))
+element-copy-out-next : tie.Need-element-copy-out-next Inv-loop μ-loop
+element-copy-out-next c = omega (arith, small (c .before .before))
 
 effect-at-requires : tie.Need-effect-at-requires Inv-loop μ-loop
 effect-at-requires c κs =
@@ -295,18 +295,11 @@ limited c = decided (for c) .limit-first .result
 abbrev stateOf : Ruled → State
 stateOf c = tickedState (turnOf (of (for c))) (ticked (of (for c)))
 
--- what it leaves
-abbrev left : Ruled → Outcome
-left c = leaves (turnOf (of (for c))) (ticked (of (for c))) (chosen (for c)) (limited c) (c .effect-at .result)
+acted : (c : Ruled) → Acted (turnOf (of (for c))) (stateOf c) (for c .concerned .result) (c .effect-at .result)
+acted c = let k = for c in acts (turnOf (of k)) (ticked (of k)) (chosen k) (limited c) (is-limit (decided k)) (c .effect-at .result) (c .effect-at .ensures)
 
-rule : (c : Ruled) → ruled (turnOf (of (for c))) (ticked (of (for c))) (chosen (for c)) (eqb (turnOf (of (for c)) .moment) (turnOf (of (for c)) .limit)) ≡ left c
-rule c = let k = for c in rule-leaves (turnOf (of k)) (ticked (of k)) (chosen k) (limited c) (is-limit (decided k)) (c .effect-at .result) (c .effect-at .ensures)
-
-acted : (c : Ruled) → Acted (turnOf (of (for c))) (stateOf c) (for c .concerned .result) (left c)
-acted c = let k = for c in acts (turnOf (of k)) (ticked (of k)) (chosen k) (left c) (rule c)
-
--- what is added has room
-fits : (c : Ruled) → limited c ≡ true → 0 < c .effect-at .result .amount → getD (stateOf c .counts) (for c .concerned .result) 0 < 8
+-- an entry goes, or there is room for one
+fits : (c : Ruled) → Room (c .effect-at .result .first) (c .effect-at .result .amount) (getD (stateOf c .counts) (for c .concerned .result) 0)
 fits c = let k = for c in room (turnOf (of k)) (ticked (of k)) (chosen k) (limited c) (is-limit (decided k)) (c .effect-at .result) (c .effect-at .ensures)
 
 narrow-requires : tie.Need-narrow-requires Inv-loop μ-loop
@@ -331,10 +324,7 @@ send-requires c κs =
     (r .stays, r .low, r .both, r .upper)
 
 count-after-requires : tie.Need-count-after-requires Inv-loop μ-loop
-count-after-requires c κs =
-    let o = c .before .before .before .before .before .before in
-    let k = for o in
-    (fits o, λ q. some-pending (turnOf (of k)) (ticked (of k)) (chosen k) (sym (is-limit (decided k)) ∙ q))
+count-after-requires c κs = fits (c .before .before .before .before .before .before)
 
 element-write-s : tie.Need-element-write-s Inv-loop μ-loop
 element-write-s c = small (for (c .before .before .before .before .before .before .before))
@@ -345,14 +335,14 @@ change-row-requires c κs = let o = c .before .before .before .before .before .b
 change-row-requires-2 : tie.Need-change-row-requires-2 Inv-loop μ-loop
 change-row-requires-2 c κs = let o = c .before .before .before .before .before .before .before .before .before .before in (small (for o), omega (tests, turnOf (of (for o)) .going .mid .sizes), fits o)
 
--- its outcome is in place
+-- its effect is in place
 abbrev Written : Type 0
 Written = tie.After-change-row2 Inv-loop μ-loop
 
 abbrev ruling : Written → Ruled
 ruling c = c .before .before .before .before .before .before .before .before .before .before .before
 
-abbrev placed : (c : Written) → Put (stateOf (ruling c)) (for (ruling c) .concerned .result) (left (ruling c))
+abbrev placed : (c : Written) → Put (stateOf (ruling c)) (for (ruling c) .concerned .result) (ruling c .effect-at .result)
 placed c =
     record {
       number = c .before .before .before .before .before .before .before .before .narrow .result;
@@ -394,7 +384,7 @@ loop-again-2 c =
       going = put-going (turnOf (of k)) _ _ _ (placed w) (acted o);
       size = size (of k .before .before .before .before);
       first =
-          limit-due (turnOf (of k)) (ticked (of k)) (chosen k) (left o) (rule o) (sym (is-limit (decided k)) ∙ c .before .before .if3 .taken) (placed w)
+          limit-due (turnOf (of k)) (ticked (of k)) (chosen k) (limited o) (is-limit (decided k)) (o .effect-at .result) (o .effect-at .ensures) (c .before .before .if3 .taken) (placed w)
           (c .after-limit .result) (c .after-limit .ensures);
     }
 
@@ -462,8 +452,8 @@ advance-spec =
     mul-w
     element-copy-out-w
     element-copy-out-count
-    mul-first
-    element-copy-out-first
+    mul-next
+    element-copy-out-next
     effect-at-requires
     narrow-requires
     with-server-requires

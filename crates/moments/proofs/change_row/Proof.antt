@@ -11,28 +11,28 @@ use borrow.Author.Needs.{needs}
 use Rattle.moments.proofs.change_row.Statement.{statement}
 use Rattle.moments.proofs.change_row.Tie as tie
 
-returns : tie.Need-returns
-returns c =
-    let a = c .before .before .args in
-    sym (ap (λ (r : List ℕ). withRow (a .i) r (a .xs .now)) (cond-true _ _ _ (c .before .if1 .taken) ∙ cond-true _ _ _ (eq-eqb _ 0 (c .if2 .taken))) ∙ row-same (a .i) (a .xs .now))
-
-write-place-requires : tie.Need-write-place-requires
-write-place-requires c κs = let a = c .before .before .before in (a .pre .0, a .pre .2 (c .before .before .if1 .taken) (omega arith), a .pre .1)
-
-returns-2 : tie.Need-returns-2
-returns-2 c =
-    let a = c .before .before .before .before .args in
-    c .write-place .ensures
-    ∙ sym (ap (λ (r : List ℕ). withRow (a .i) r (a .xs .now)) (cond-true _ _ _ (c .before .before .before .if1 .taken) ∙ cond-false _ _ _ (ne-eqb _ 0 (c .before .before .if2 .left))))
-
 shift-row-requires : tie.Need-shift-row-requires
 shift-row-requires c κs = search needs
 
+returns : tie.Need-returns
+returns c =
+    let a = c .before .before .before .args in
+    c .shift-row .ensures ∙ sym (ap (λ (r : List ℕ). withRow (a .i) r (a .xs .now)) (cond-true _ _ _ (c .before .before .if1 .taken)))
+
+returns-2 : tie.Need-returns-2
+returns-2 c =
+    let a = c .before .before .args in
+    sym (ap (λ (r : List ℕ). withRow (a .i) r (a .xs .now)) (cond-false _ _ _ (c .before .if1 .left) ∙ cond-true _ _ _ (eq-eqb _ 0 (c .if2 .taken))) ∙ row-same (a .i) (a .xs .now))
+
+write-place-requires : tie.Need-write-place-requires
+write-place-requires c κs = let a = c .before .before .before in (a .pre .0, a .pre .2 .1 (c .before .before .if1 .left) (omega arith), a .pre .1)
+
 returns-3 : tie.Need-returns-3
 returns-3 c =
-    let a = c .before .before .before .args in
-    c .shift-row .ensures ∙ sym (ap (λ (r : List ℕ). withRow (a .i) r (a .xs .now)) (cond-false _ _ _ (c .before .before .if1 .left)))
+    let a = c .before .before .before .before .args in
+    c .write-place .ensures
+    ∙ sym (ap (λ (r : List ℕ). withRow (a .i) r (a .xs .now)) (cond-false _ _ _ (c .before .before .before .if1 .left) ∙ cond-false _ _ _ (ne-eqb _ 0 (c .before .before .if2 .left))))
 
 pub change-row-spec : {M : Type 1} → statement M
 change-row-spec =
-    tie.close (tie.spec returns write-place-requires returns-2 shift-row-requires returns-3)
+    tie.close (tie.spec shift-row-requires returns returns-2 write-place-requires returns-3)

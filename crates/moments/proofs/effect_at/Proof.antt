@@ -11,11 +11,11 @@ limit-effect-requires c κs = c .before .before .before .pre (c .if1 .taken)
 returns : tie.Need-returns
 returns c = c .limit-effect .ensures ∙ sym (cond-true _ _ _ (c .before .if1 .taken))
 
-return-first-requires : tie.Need-return-first-requires
-return-first-requires c κs = search needs
+return-effect-requires : tie.Need-return-effect-requires
+return-effect-requires c κs = search needs
 
 returns-2 : tie.Need-returns-2
-returns-2 c = c .return-first .ensures ∙ sym (cond-false _ _ _ (c .before .before .if1 .left))
+returns-2 c = c .return-effect .ensures ∙ sym (cond-false _ _ _ (c .before .before .if1 .left))
 
 pub effect-at-spec : {M : Type 1} → statement M
-effect-at-spec = tie.close (tie.spec limit-effect-requires returns return-first-requires returns-2)
+effect-at-spec = tie.close (tie.spec limit-effect-requires returns return-effect-requires returns-2)
