@@ -40,7 +40,7 @@ withThreads p xs l = take (start p) l ++ (rowOf xs ++ drop (start p + 33) l)
 abbrev pub insertAt : ℕ → ℕ → List ℕ → List ℕ
 insertAt k i xs = take k xs ++ (i ∷ drop k xs)
 
--- a list without thread i; the others keep their order
+-- a list less the first i in it, where there is one (a sound list holds each thread once); the others keep their order
 unfoldable pub without : ℕ → List ℕ → List ℕ
 without i [] = []
 without i (x ∷ xs) = cond (eqb x i) xs (x ∷ without i xs)
