@@ -1,6 +1,5 @@
 -- The worked table, by computing.
 use mathlib.Core.Path.{refl}
-use mathlib.Core.List.{_++_}
 use Rattle.records.specs.Tests.{all, below}
 use Rattle.records.specs.Ranges.{fifoInRange, rrInRange, sporadicInRange, inRange, allZero}
 use Rattle.account.specs.Rules.{scheduled, limitEffect, returnEffect}
@@ -17,9 +16,9 @@ use Rattle.moments.specs.Moments.{limits, replenish, replenishBelow, fire}
 use Rattle.events.specs.Effects.{effect}
 use Rattle.events.specs.Answers.{fieldStatusOf, stateStatusOf}
 use Rattle.events.specs.Opening.{enteredBelow, openStatus, opening}
-use Rattle.events.specs.Table.{Holds, replay, instances}
+use Rattle.events.specs.Table.{listOf, TableHolds}
 
 -- the replay's seven events and the five rows
-pub table-holds : Holds (replay ++ instances)
-unfolding lib.Count.leadingZeros all below fifoInRange rrInRange sporadicInRange inRange allZero scheduled limitEffect returnEffect soundAt withThreads without occurs wordOf occupancy soundRow soundRows soundLists run firstOf status answer withRow presentTest absentTest soundState nextDue limits replenish replenishBelow fire effect fieldStatusOf stateStatusOf enteredBelow openStatus opening
+pub table-holds : TableHolds
+unfolding lib.Count.leadingZeros all below fifoInRange rrInRange sporadicInRange inRange allZero scheduled limitEffect returnEffect soundAt withThreads without occurs wordOf occupancy soundRow soundRows soundLists run firstOf status answer withRow presentTest absentTest soundState nextDue limits replenish replenishBelow fire effect fieldStatusOf stateStatusOf enteredBelow openStatus opening listOf
 table-holds = refl

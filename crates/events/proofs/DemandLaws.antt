@@ -18,7 +18,7 @@ use Rattle.ready.proofs.WordLaws.{Highest, highest-leading, highest-list}
 use Rattle.ready.proofs.SoundLaws.{size-threads, highest-sound}
 use Rattle.passing.specs.Time.{advance}
 use Rattle.passing.specs.Sequence.{Answer, firstOf}
-use Rattle.passing.proofs.TimeLaws.{keeps, sound-advance, advance-advance}
+use Rattle.passing.proofs.TimeLaws.{advance-rest, advance-due, keeps, sound-advance, advance-advance}
 use Rattle.passing.proofs.SequenceLaws.{acceptable, answer-accepted}
 use Rattle.passing.proofs.ReadingsLaws.{MachineLaws, extra-readings}
 use Rattle.state.specs.declared.State.{State}
@@ -32,7 +32,7 @@ use Rattle.moments.proofs.ChargeLaws.{later, no-word}
 use Rattle.moments.proofs.MomentLaws.{passing}
 use Rattle.events.specs.Effects.{effect}
 use Rattle.events.specs.Answers.{fieldStatusOf, stateStatusOf, fieldStatus, executive, badKind, badParameters}
-use Rattle.events.specs.Demand.{ReadingsChangeNothing, AcceptedIsSound, OpeningIsSound, HeadRuns, TimesAddUp, NextIsLater, PassingComposes}
+use Rattle.events.specs.Demand.{ReadingsChangeNothing, AcceptedIsSound, OpeningIsSound, HeadRuns, TimesAddUp, NextIsLater, PassingComposes, PassesByMoments}
 use Rattle.events.proofs.EventLaws.{effect-sound}
 use Rattle.events.proofs.OpeningLaws.{opening-sound}
 
@@ -82,6 +82,9 @@ next-is-later s e p = later s (state-out s e) p
 
 pub passing-composes : PassingComposes
 passing-composes s b c e p q r = advance-advance clock passing s b c e p q r
+
+pub passes-by-moments : PassesByMoments
+passes-by-moments s t e p q = record { none = λ z. advance-rest clock s t z; one = λ z. advance-due clock passing s t e q z }
 
 -- the highest list from the word, and its head
 pub head-runs : HeadRuns

@@ -1,6 +1,6 @@
 -- Demand 3 at the executive, and what every accepted answer leaves.
 use Prim.Native.Nat.{ℕ, _+_, _≤_, _<_}
-use mathlib.Core.Bool.{true}
+use mathlib.Core.Bool.{true, false}
 use mathlib.Core.Path.{_≡_}
 use mathlib.Core.List.{List, []}
 use lib.ListN.{length}
@@ -8,12 +8,13 @@ use Rattle.records.specs.declared.Parameters.{Parameters}
 use Rattle.records.specs.declared.Event.{Event}
 use Rattle.records.specs.Ranges.{lastTime}
 use Rattle.ready.specs.Lists.{threads, headOf}
+use Rattle.passing.specs.Time.{dueBy, chargeTo, moment}
 use Rattle.passing.specs.Sequence.{status, answer}
 use Rattle.passing.specs.Readings.{ExtraReadings}
 use Rattle.state.specs.declared.State.{State}
 use Rattle.state.specs.Sound.{totals, soundState}
 use Rattle.ticks.specs.Running.{level, running, next}
-use Rattle.moments.specs.Moments.{passed}
+use Rattle.moments.specs.Moments.{clock, passed}
 use Rattle.events.specs.Answers.{executive}
 use Rattle.events.specs.Opening.{opening}
 
@@ -48,3 +49,12 @@ NextIsLater = (s : State) → soundState s ≡ true → 0 < next s → s .now < 
 -- Passing 1: to b and then to c is to c
 abbrev pub PassingComposes : Type 0
 PassingComposes = (s : State) (b c : ℕ) → soundState s ≡ true → s .now ≤ b → b ≤ c → c ≤ lastTime → passed (passed s b) c ≡ passed s c
+
+-- Passing 1, 3, 5: how a sound state comes to the time t. Where no moment is due by then, the ticks up to it are charged; where one is,
+-- that moment comes first and time passes on from there. So the number of moments that `passed` counts down is no limit.
+pub record ByMoments (s : State) (t : ℕ) : Type 0 where
+  pub none : dueBy (next s) t ≡ false → passed s t ≡ chargeTo clock s t
+  pub one : dueBy (next s) t ≡ true → passed s t ≡ passed (moment clock s) t
+
+abbrev pub PassesByMoments : Type 0
+PassesByMoments = (s : State) (t : ℕ) → soundState s ≡ true → s .now ≤ t → t ≤ lastTime → ByMoments s t

@@ -1,11 +1,14 @@
 -- The worked table: the replay's seven events and the rows of 01 that are marked to be proved (Replay 1 to 6, Instances 1 to 11).
 use Prim.Native.Nat.{ℕ, zero, suc, _-_}
 use mathlib.Core.Path.{_≡_}
-use mathlib.Core.List.{List, [], _∷_, map}
+use mathlib.Core.Bool.{cond}
+use mathlib.Core.List.{List, [], _∷_, _++_, map}
 use lib.ListN.{length, drop, getD}
+use lib.Dec.{eqb}
 use Rattle.records.specs.declared.Parameters.{Parameters}
 use Rattle.records.specs.declared.Event.{Event}
 use Rattle.account.specs.Account.{dues, amounts}
+use Rattle.ready.specs.Lists.{threads, occurs}
 use Rattle.passing.specs.Sequence.{Answer, answers}
 use Rattle.state.specs.declared.State.{State}
 use Rattle.records.specs.Ranges.{noParameters}
@@ -13,10 +16,12 @@ use Rattle.state.specs.State.{threadAt, pendingAt, assigned}
 use Rattle.events.specs.Answers.{executive, reading}
 use Rattle.events.specs.Opening.{opening}
 
--- what the table says of a thread: capacity, assigned priority, activation time, pending entries, total
+-- what the table says of a thread: capacity, assigned priority, the list in which it stands (0 for none), activation time, pending
+-- entries, total
 pub record Seen : Type 0 where
   pub capacity : ℕ
   pub priority : ℕ
+  pub list : ℕ
   pub activation : ℕ
   pub dues : List ℕ
   pub amounts : List ℕ
@@ -30,18 +35,24 @@ pub record Shown : Type 0 where
   pub threads : List Seen
   pub idle : ℕ
 
+-- the highest of the lists 1 to n in which thread i stands, 0 for none
+unfoldable pub listOf : ℕ → ℕ → List ℕ → ℕ
+listOf zero i l = 0
+listOf (suc p) i l = cond (eqb (occurs i (threads (suc p) l)) 0) (listOf p i l) (suc p)
+
 abbrev pub seen : State → ℕ → Seen
 seen s i =
     record {
       capacity = threadAt s i .server .capacity;
       priority = assigned (threadAt s i) (getD (s .counts) i 0);
+      list = listOf 32 i (s .lists);
       activation = threadAt s i .server .activation;
       dues = dues (pendingAt s i);
       amounts = amounts (pendingAt s i);
       total = threadAt s i .total;
     }
 
--- the threads 0 to n - 1
+-- the threads 0 to n - 1, of which the table has at most two
 abbrev pub allSeen : State → ℕ → List Seen
 allSeen s zero = []
 allSeen s (suc zero) = seen s 0 ∷ []
@@ -92,9 +103,9 @@ blockAt t = event 1 t 0
 abbrev pub wakeAt : ℕ → ℕ → Event
 wakeAt t i = event 3 t i
 
-abbrev pub at : ℕ → ℕ → ℕ → List ℕ → List ℕ → ℕ → Seen
-at capacity priority activation dues amounts total =
-    record { capacity = capacity; priority = priority; activation = activation; dues = dues; amounts = amounts; total = total }
+abbrev pub at : ℕ → ℕ → ℕ → ℕ → List ℕ → List ℕ → ℕ → Seen
+at capacity priority list activation dues amounts total =
+    record { capacity = capacity; priority = priority; list = list; activation = activation; dues = dues; amounts = amounts; total = total }
 
 abbrev pub says : ℕ → ℕ → ℕ → List Seen → ℕ → Shown
 says status running next threads idle = record { status = status; running = running; next = next; threads = threads; idle = idle }
@@ -104,42 +115,42 @@ abbrev pub two : List Parameters
 two = sporadic 1 10 40 2 ∷ fifo 1 10 ∷ []
 
 -- thread 1 of the replay, and of the row in which it preempts
-abbrev pub other : ℕ → ℕ → Seen
-other priority total = at 0 priority 0 [] [] total
+abbrev pub other : ℕ → ℕ → ℕ → Seen
+other priority list total = at 0 priority list 0 [] [] total
 
 -- Replay 4 to 6: one entry for each of the seven events
 abbrev pub replay : List Entry
 replay =
-    record { table = two; events = clockAt 4 ∷ []; last = says 0 0 10 (at 6 20 0 [] [] 4 ∷ other 10 0 ∷ []) 0 ∷ [] }
+    record { table = two; events = clockAt 4 ∷ []; last = says 0 0 10 (at 6 20 20 0 [] [] 4 ∷ other 10 10 0 ∷ []) 0 ∷ [] }
     ∷ record {
       table = two;
       events = clockAt 4 ∷ blockAt 6 ∷ [];
-      last = says 0 1 40 (at 4 20 0 (40 ∷ []) (6 ∷ []) 6 ∷ other 10 0 ∷ []) 0 ∷ [];
+      last = says 0 1 40 (at 4 20 0 0 (40 ∷ []) (6 ∷ []) 6 ∷ other 10 10 0 ∷ []) 0 ∷ [];
     }
     ∷ record {
       table = two;
       events = clockAt 4 ∷ blockAt 6 ∷ wakeAt 15 0 ∷ [];
-      last = says 0 0 19 (at 4 20 15 (40 ∷ []) (6 ∷ []) 6 ∷ other 10 9 ∷ []) 0 ∷ [];
+      last = says 0 0 19 (at 4 20 20 15 (40 ∷ []) (6 ∷ []) 6 ∷ other 10 10 9 ∷ []) 0 ∷ [];
     }
     ∷ record {
       table = two;
       events = clockAt 4 ∷ blockAt 6 ∷ wakeAt 15 0 ∷ clockAt 25 ∷ [];
-      last = says 0 1 40 (at 0 5 15 (40 ∷ 55 ∷ []) (6 ∷ 4 ∷ []) 10 ∷ other 10 15 ∷ []) 0 ∷ [];
+      last = says 0 1 40 (at 0 5 5 15 (40 ∷ 55 ∷ []) (6 ∷ 4 ∷ []) 10 ∷ other 10 10 15 ∷ []) 0 ∷ [];
     }
     ∷ record {
       table = two;
       events = clockAt 4 ∷ blockAt 6 ∷ wakeAt 15 0 ∷ clockAt 25 ∷ clockAt 40 ∷ [];
-      last = says 0 0 46 (at 6 20 40 (55 ∷ []) (4 ∷ []) 10 ∷ other 10 30 ∷ []) 0 ∷ [];
+      last = says 0 0 46 (at 6 20 20 40 (55 ∷ []) (4 ∷ []) 10 ∷ other 10 10 30 ∷ []) 0 ∷ [];
     }
     ∷ record {
       table = two;
       events = clockAt 4 ∷ blockAt 6 ∷ wakeAt 15 0 ∷ clockAt 25 ∷ clockAt 40 ∷ clockAt 46 ∷ [];
-      last = says 0 1 55 (at 0 5 40 (55 ∷ 80 ∷ []) (4 ∷ 6 ∷ []) 16 ∷ other 10 30 ∷ []) 0 ∷ [];
+      last = says 0 1 55 (at 0 5 5 40 (55 ∷ 80 ∷ []) (4 ∷ 6 ∷ []) 16 ∷ other 10 10 30 ∷ []) 0 ∷ [];
     }
     ∷ record {
       table = two;
       events = clockAt 4 ∷ blockAt 6 ∷ wakeAt 15 0 ∷ clockAt 25 ∷ clockAt 40 ∷ clockAt 46 ∷ clockAt 45 ∷ [];
-      last = says 1 1 55 (at 0 5 40 (55 ∷ 80 ∷ []) (4 ∷ 6 ∷ []) 16 ∷ other 10 30 ∷ []) 0 ∷ [];
+      last = says 1 1 55 (at 0 5 5 40 (55 ∷ 80 ∷ []) (4 ∷ 6 ∷ []) 16 ∷ other 10 10 30 ∷ []) 0 ∷ [];
     }
     ∷ []
 
@@ -150,26 +161,33 @@ instances =
     record {
       table = sporadic 1 10 40 1 ∷ [];
       events = blockAt 3 ∷ wakeAt 5 0 ∷ clockAt 40 ∷ [];
-      last = says 0 0 40 (at 7 5 0 (40 ∷ []) (3 ∷ []) 3 ∷ []) 2 ∷ says 0 0 50 (at 10 20 40 [] [] 38 ∷ []) 2 ∷ [];
+      last = says 0 0 40 (at 7 5 5 0 (40 ∷ []) (3 ∷ []) 3 ∷ []) 2 ∷ says 0 0 50 (at 10 20 20 40 [] [] 38 ∷ []) 2 ∷ [];
     }
     -- Instances 6 and 7: the budget is the period, so it comes back at its limit
-    ∷ record { table = sporadic 1 10 10 2 ∷ []; events = clockAt 10 ∷ []; last = says 0 0 20 (at 10 20 10 [] [] 10 ∷ []) 0 ∷ [] }
-    -- Instances 8 and 9: preempted from 4 to 20 by a thread that wakes and blocks
+    ∷ record { table = sporadic 1 10 10 2 ∷ []; events = clockAt 10 ∷ []; last = says 0 0 20 (at 10 20 20 10 [] [] 10 ∷ []) 0 ∷ [] }
+    -- Instances 8 and 9: preempted from 4 to 20 by a thread that wakes and blocks; at 20 the limit is still 6 ticks away
     ∷ record {
       table = sporadic 1 10 12 2 ∷ fifo 0 30 ∷ [];
       events = wakeAt 4 1 ∷ blockAt 20 ∷ clockAt 26 ∷ [];
-      last = says 0 0 36 (at 10 20 26 [] [] 10 ∷ other 30 16 ∷ []) 0 ∷ [];
+      last =
+          says 0 0 26 (at 6 20 20 0 [] [] 4 ∷ other 30 0 16 ∷ []) 0
+          ∷ says 0 0 36 (at 10 20 20 26 [] [] 10 ∷ other 30 0 16 ∷ []) 0
+          ∷ [];
     }
     -- Instances 10: a wake and a block at one time schedule nothing
     ∷ record {
       table = sporadic 0 10 40 2 ∷ [];
       events = wakeAt 7 0 ∷ blockAt 7 ∷ [];
-      last = says 0 255 0 (at 10 20 7 [] [] 0 ∷ []) 7 ∷ [];
+      last = says 0 255 0 (at 10 20 0 7 [] [] 0 ∷ []) 7 ∷ [];
     }
     -- Instances 11: an RR thread alone runs on with a full quantum
     ∷ record {
       table = record { policy = 1; priority = 10; low = 0; «max_repl» = 0; flag = 1; budget = 5; period = 0 } ∷ [];
       events = clockAt 5 ∷ [];
-      last = says 0 0 10 (at 0 10 0 [] [] 5 ∷ []) 0 ∷ [];
+      last = says 0 0 10 (at 0 10 10 0 [] [] 5 ∷ []) 0 ∷ [];
     }
     ∷ []
+
+-- Replay 1 to 6, Instances 3 to 11: the 12 entries are answered so
+abbrev pub TableHolds : Type 0
+TableHolds = Holds (replay ++ instances)

@@ -10,7 +10,7 @@ use lib.Pow.{pow-pos, pow-add}
 use lib.Count.{leading-unique}
 use lib.Dec.{eqb}
 use borrow.Author.Tests.{eq-eqb, ne-eqb, eqb-true, eqb-false}
-use Rattle.ready.specs.Word.{wordOf, sizeAt, occupancy, highestOf, highestList}
+use Rattle.ready.specs.Word.{BitsAreLists, wordOf, sizeAt, occupancy, highestOf, highestList}
 
 pub word-lt : (n : ℕ) (f : ℕ → ℕ) → wordOf n f < 2 ^ n
 unfolding wordOf
@@ -89,11 +89,10 @@ bit (suc n) k f h = go (ℕ-discrete k n) (λ l. bit n k f l)
     go (yes e) r = rw e (last (eqb (f (suc n)) 0))
     go (no d) r = let l : k < n = omega (arith, d) in lower (eqb (f (suc n)) 0) l ∙ r l
 
--- State 4: bit p - 1 is set exactly when list p holds a thread
-pub bit-set : (l : List ℕ) (p : ℕ) → 1 ≤ p → p ≤ 32 → occupancy l / 2 ^ (p - 1) % 2 ≡ cond (eqb (sizeAt l p) 0) 0 1
+pub bits-are-lists : BitsAreLists
 unfolding occupancy
-bit-set l zero lo hi = absurd (omega arith)
-bit-set l (suc k) lo hi =
+bits-are-lists l zero lo hi = absurd (omega arith)
+bits-are-lists l (suc k) lo hi =
     let e : suc k - 1 ≡ k = omega arith in
     ap (λ (j : ℕ). wordOf 32 (sizeAt l) / 2 ^ j % 2) e ∙ bit 32 k (sizeAt l) (omega arith)
 

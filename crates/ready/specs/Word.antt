@@ -1,7 +1,8 @@
 -- State 4: the occupancy word, and the highest list that holds a thread.
 use mathlib.Core.List.{List}
 use mathlib.Core.Bool.{cond}
-use Prim.Native.Nat.{ℕ, zero, suc, _+_, _-_, _^_}
+use mathlib.Core.Path.{_≡_}
+use Prim.Native.Nat.{ℕ, zero, suc, _+_, _-_, _^_, _/_, _%_, _≤_}
 use lib.Count.{leadingZeros}
 use lib.Dec.{eqb}
 use Rattle.ready.specs.Lists.{rowAt, size}
@@ -18,6 +19,10 @@ sizeAt l p = size (rowAt p l)
 -- the occupancy word of the array
 unfoldable pub occupancy : List ℕ → ℕ
 occupancy l = wordOf 32 (sizeAt l)
+
+-- State 4: bit p - 1 of the word is set exactly when list p holds a thread
+abbrev pub BitsAreLists : Type 0
+BitsAreLists = (l : List ℕ) (p : ℕ) → 1 ≤ p → p ≤ 32 → occupancy l / 2 ^ (p - 1) % 2 ≡ cond (eqb (sizeAt l p) 0) 0 1
 
 -- State 4: the highest list as the word's leading zeros give it
 abbrev pub highestOf : ℕ → ℕ
