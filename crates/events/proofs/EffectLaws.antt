@@ -19,11 +19,12 @@ use Rattle.account.specs.Rules.{wakeEffect, blocking, waking}
 use Rattle.account.specs.Sound.{runsUpper}
 use Rattle.account.proofs.SoundLaws.{AccountSound, Sent, block-sound, wake-upper, wake-low, fresh-sound, upper-room}
 use Rattle.state.specs.declared.Thread.{Thread}
-use Rattle.state.specs.State.{isBlocked, assigned, withServer}
+use Rattle.state.specs.State.{isBlocked, assigned}
 use Rattle.state.proofs.SoundLaws.{ThreadSound, range-out, fifo-out, rr-out, sporadic-out}
 use Rattle.state.proofs.SoundLaws.ThreadSound.{absent, fifo, rr, sporadic}
 use Rattle.ticks.proofs.RunLaws.{by-zero, by-one, by-two}
-use Rattle.events.specs.Effects.{withBlocked, fullQuantum, ifSporadic, noAccount, renewed, newAccount}
+use Rattle.events.specs.Effects.{fullQuantum, ifSporadic, noAccount, renewed, newAccount}
+use Rattle.state.specs.Updates.{withBlocked, withServer}
 
 -- a thread and an account that fit a place of a sound state
 pub record Fits (start now : ℕ) (b : Bool) (t : Thread) (a : Account) : Type 0 where

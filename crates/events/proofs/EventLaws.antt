@@ -25,19 +25,19 @@ use Rattle.ready.proofs.SoundLaws.{withPlace, sound-same, append-sound, remove-
 use Rattle.passing.proofs.SequenceLaws.{firstOf-zero}
 use Rattle.state.specs.declared.Thread.{Thread}
 use Rattle.state.specs.declared.State.{State}
-use Rattle.state.specs.State.{isBlocked, noThread, threadAt, pendingAt, accountAt, assigned, placeOf, place, withServer}
+use Rattle.state.specs.State.{isBlocked, noThread, threadAt, pendingAt, accountAt, assigned, placeOf, place}
 use Rattle.rows.proofs.RowLaws.{row-length}
 use Rattle.state.proofs.SoundLaws.{blocked-most, ThreadSound, Sound}
 use Rattle.state.proofs.SoundLaws.ThreadSound.{absent, fifo, rr, sporadic}
 use Rattle.ticks.specs.Running.{level, head, idles}
 use Rattle.ticks.proofs.RunLaws.{by-zero, by-one, by-two}
-use Rattle.moments.specs.Changes.{withLists, withAccount}
 use Rattle.moments.proofs.ChangeLaws.{withBound, changed, thread-account}
 use Rattle.moments.proofs.ChargeLaws.{Runs, runs}
 use Rattle.moments.proofs.FireLaws.{bounds-same}
-use Rattle.events.specs.Effects.{withBlocked, fullQuantum, ifSporadic, renewed, newAccount, block, yield, wake, set, byKind, effect}
+use Rattle.events.specs.Effects.{fullQuantum, ifSporadic, renewed, newAccount, block, yield, wake, set, byKind, effect}
 use Rattle.events.specs.Answers.{fieldStatusOf, stateStatusOf, fieldStatus, stateStatus}
 use Rattle.events.proofs.EffectLaws.{Fits, block-fits, quantum-fits, wake-fits, set-fits}
+use Rattle.state.specs.Updates.{withLists, withAccount, withBlocked, withServer}
 
 -- a thread that is there has an assigned priority in range
 assigned-range : (start now lo : ℕ) (b : Bool) (t : Thread) (q : Pending) → ThreadSound start now lo b t q → (b ≡ false → t ≡ noThread → ⊥)

@@ -23,34 +23,24 @@ use Rattle.passing.proofs.SequenceLaws.{firstOf-zero}
 use Rattle.state.specs.declared.Thread.{Thread}
 use Rattle.state.specs.declared.State.{State}
 use Rattle.rows.specs.Rows.{rowAt}
-use Rattle.state.specs.State.{noThread, threadAt, pendingAt, assigned, placeOf, place, withServer}
+use Rattle.state.specs.State.{noThread, threadAt, pendingAt, assigned, placeOf, place}
 use Rattle.state.specs.Sound.{totals, soundState}
 use Rattle.rows.proofs.RowLaws.{row-length}
 use Rattle.state.proofs.SoundLaws.{noPending, ThreadSound, Sound, state-in}
 use Rattle.state.proofs.SoundLaws.ThreadSound.{absent, fifo, rr, sporadic}
-use Rattle.moments.specs.Changes.{withLists, withAccount}
 use Rattle.moments.proofs.ChangeLaws.{withBound, totals-set, changed-at}
 use Rattle.moments.proofs.FireLaws.{bounds-same}
-use Rattle.events.specs.Effects.{withBlocked, renewed, newAccount}
+use Rattle.events.specs.Effects.{renewed, newAccount}
 use Rattle.events.specs.Answers.{executive}
 use Rattle.events.specs.Opening.{emptyState, withoutFlag, entered, enteredBelow, openStatus, opening}
 use Rattle.events.proofs.EffectLaws.{Fits, set-fits}
 use Rattle.events.proofs.EventLaws.{no-status, and-both}
+use Rattle.state.specs.Updates.{withLists, withAccount, withBlocked, withServer, stateOf}
 
 -- the same state with another number of threads
 abbrev withN : ℕ → State → State
 withN k s =
-    record {
-      header = record { n = k; start = s .header .start };
-      now = s .now;
-      idle = s .idle;
-      word = s .word;
-      threads = s .threads;
-      counts = s .counts;
-      dues = s .dues;
-      amounts = s .amounts;
-      lists = s .lists;
-    }
+    stateOf (record { n = k; start = s .header .start }) (s .now) (s .idle) (s .word) (s .threads) (s .counts) (s .dues) (s .amounts) (s .lists)
 
 -- what a state meets once k threads have entered
 pub record Entered (k : ℕ) (s : State) : Type 0 where
@@ -224,17 +214,7 @@ opened-sound start n table z =
 
         same : withN n s ≡ s
         same =
-            λ x. record {
-              header = head x;
-              now = s .now;
-              idle = s .idle;
-              word = s .word;
-              threads = s .threads;
-              counts = s .counts;
-              dues = s .dues;
-              amounts = s .amounts;
-              lists = s .lists;
-            }
+            λ x. stateOf (head x) (s .now) (s .idle) (s .word) (s .threads) (s .counts) (s .dues) (s .amounts) (s .lists)
 
 -- an accepted opening is sound
 pub opening-sound : (start n : ℕ) (table : List Parameters) → opening start n table .status ≡ 0 → soundState (opening start n table .state) ≡ true

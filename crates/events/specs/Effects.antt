@@ -13,11 +13,7 @@ use Rattle.state.specs.declared.Thread.{Thread}
 use Rattle.state.specs.declared.State.{State}
 use Rattle.state.specs.State.{isBlocked, noServer, threadAt, accountAt, assigned}
 use Rattle.ticks.specs.Running.{level, head}
-use Rattle.moments.specs.Changes.{withThread, withLists, withLeft, withAccount}
-
--- blocked (1) or runnable (0)
-abbrev pub withBlocked : ℕ → Thread → Thread
-withBlocked b t = record { parameters = t .parameters; blocked = b; total = t .total; left = t .left; server = t .server }
+use Rattle.state.specs.Updates.{withThread, withLists, withLeft, withAccount, withBlocked, withParameters}
 
 -- Events 4 and 5: an RR thread gets a full quantum
 abbrev pub fullQuantum : Thread → Thread
@@ -49,7 +45,7 @@ noAccount = record { server = noServer; pending = record { count = 0; dues = rep
 
 -- Events 6: everything anew with the parameters p; the thread stays blocked or runnable and keeps its run time
 abbrev pub renewed : Parameters → Thread → Thread
-renewed p t = record { parameters = p; blocked = t .blocked; total = t .total; left = byPolicy (p .policy) 0 (p .budget) 0; server = t .server }
+renewed p t = withParameters p (withLeft (byPolicy (p .policy) 0 (p .budget) 0) t)
 
 abbrev pub newAccount : ℕ → Parameters → Account
 newAccount now p = byPolicy (p .policy) noAccount noAccount (freshAccount now p)

@@ -11,24 +11,14 @@ use Rattle.ready.specs.Lists.{appended}
 use Rattle.passing.specs.Sequence.{Answer, firstOf, accepted}
 use Rattle.state.specs.declared.State.{State}
 use Rattle.state.specs.State.{noThread, threadAt}
-use Rattle.moments.specs.Changes.{withLists, withAccount}
-use Rattle.events.specs.Effects.{withBlocked, renewed, newAccount}
+use Rattle.events.specs.Effects.{renewed, newAccount}
 use Rattle.events.specs.Answers.{executive}
+use Rattle.state.specs.Updates.{withLists, withAccount, withBlocked, stateOf}
 
 -- Status 20: a state of so many threads, none of them there yet, at the start time
 abbrev pub emptyState : ℕ → ℕ → State
 emptyState n start =
-    record {
-      header = record { n = n; start = start };
-      now = start;
-      idle = 0;
-      word = 0;
-      threads = replicate 32 noThread;
-      counts = replicate 32 0;
-      dues = replicate 256 0;
-      amounts = replicate 256 0;
-      lists = replicate 1056 0;
-    }
+    stateOf (record { n = n; start = start }) start 0 0 (replicate 32 noThread) (replicate 32 0) (replicate 256 0) (replicate 256 0) (replicate 1056 0)
 
 -- the parameters as a state keeps them: the start flag is spent
 abbrev pub withoutFlag : Parameters → Parameters

@@ -8,9 +8,10 @@ use Rattle.account.specs.declared.Account.{Account}
 use Rattle.account.specs.Rules.{blocking, waking}
 use Rattle.state.specs.declared.Thread.{Thread}
 use Rattle.state.specs.State.{isBlocked, placeOf}
-use Rattle.events.specs.Effects.{withBlocked, fullQuantum, ifSporadic, renewed, newAccount, byKind}
+use Rattle.events.specs.Effects.{fullQuantum, ifSporadic, renewed, newAccount, byKind}
 use Rattle.executive.specs.declared.effects.Change.{Change}
 use Rattle.executive.specs.Steps.{changeOf}
+use Rattle.state.specs.Updates.{withBlocked}
 
 -- a change, part by part
 abbrev change : Thread → Account → ℕ → ℕ → Change

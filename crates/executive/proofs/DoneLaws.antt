@@ -19,14 +19,13 @@ use Rattle.ready.proofs.SoundLaws.{leavable, joinable, movable}
 use Rattle.state.specs.declared.Thread.{Thread}
 use Rattle.state.specs.declared.State.{State}
 use Rattle.rows.specs.Rows.{withRow}
-use Rattle.state.specs.State.{isBlocked, threadAt, pendingAt, accountAt, assigned, place, withServer}
+use Rattle.state.specs.State.{isBlocked, threadAt, pendingAt, accountAt, assigned, place}
 use Rattle.state.specs.Sound.{soundState}
 use Rattle.state.proofs.SoundLaws.{Sound, range-out, state-out}
 use Rattle.ticks.specs.Running.{level, head, idles}
-use Rattle.moments.specs.Changes.{withLists, withAccount}
 use Rattle.moments.proofs.ChangeLaws.{thread-account}
 use Rattle.moments.proofs.ChargeLaws.{Runs, runs}
-use Rattle.events.specs.Effects.{withBlocked, fullQuantum, ifSporadic, renewed, newAccount, set, effect}
+use Rattle.events.specs.Effects.{fullQuantum, ifSporadic, renewed, newAccount, set, effect}
 use Rattle.events.specs.Answers.{fieldStatus, stateStatus}
 use Rattle.events.proofs.EventLaws.{place-range, there-range, fields}
 use Rattle.executive.specs.declared.effects.Change.{Change}
@@ -35,6 +34,7 @@ use Rattle.executive.proofs.ShiftLaws.{shift-joins, shift-leaves, shift
 use Rattle.executive.proofs.ChangeLaws.{changeAt, change-at}
 use Rattle.executive.proofs.StateLaws.{put-is, lists-are, effect-at}
 use Rattle.executive.proofs.RequiresLaws.{block-fits, yield-fits, wake-fits, set-fits, block-requires}
+use Rattle.state.specs.Updates.{withLists, withAccount, withBlocked, withServer, stateOf}
 
 -- the lists of a thread with new parameters: from its list p to q, or blocked and in none
 set-lists : (b : Bool) (k p q : ℕ) (l : List ℕ) → 1 ≤ p → 1 ≤ q → shifted k (cond b 0 p) (cond b 0 q) l ≡ cond b l (moved k p q l)
@@ -226,31 +226,11 @@ module _ (s : State) (e : Event) (n j : ℕ) (v : Concerns s e n j) where
       pub change-is : (u : Thread) → u ≡ withServer (c .account .server) (c .thread)
           → (d m k : List ℕ) (w : ℕ) → d ≡ withRow j (c .account .pending .dues) (s .dues) → m ≡ withRow j (c .account .pending .amounts) (s .amounts)
           → k ≡ shifted n (c .from) (c .to) (s .lists) → w ≡ occupancy (shifted n (c .from) (c .to) (s .lists))
-          → record {
-            header = s .header;
-            now = s .now;
-            idle = s .idle;
-            word = w;
-            threads = lists.set (s .threads) j u;
-            counts = lists.set (s .counts) j (c .account .pending .count);
-            dues = d;
-            amounts = m;
-            lists = k;
-          }
+          → (stateOf (s .header) (s .now) (s .idle) w (lists.set (s .threads) j u) (lists.set (s .counts) j (c .account .pending .count)) d m k)
           ≡ effect s e
       change-is u eu d m k w ed em ek ew =
           lists-are
-          (record {
-            header = s .header;
-            now = s .now;
-            idle = s .idle;
-            word = s .word;
-            threads = lists.set (s .threads) j u;
-            counts = lists.set (s .counts) j (c .account .pending .count);
-            dues = d;
-            amounts = m;
-            lists = s .lists;
-          })
+          (stateOf (s .header) (s .now) (s .idle) (s .word) (lists.set (s .threads) j u) (lists.set (s .counts) j (c .account .pending .count)) d m (s .lists))
           k _ w ek ew
           ∙ ap (withLists (shifted n (c .from) (c .to) (s .lists))) (put-is s j (c .thread) (c .account) u d m eu ed em ∙ ap (λ (i : ℕ). withAccount i (c .thread) (c .account) s) (v .there))
           ∙ given .is

@@ -22,8 +22,7 @@ use Rattle.passing.proofs.SequenceLaws.{firstOf-zero}
 use Rattle.state.specs.declared.Thread.{Thread}
 use Rattle.state.specs.declared.State.{State}
 use Rattle.state.specs.State.{noThread, threadAt, place}
-use Rattle.moments.specs.Changes.{withLists, withAccount}
-use Rattle.events.specs.Effects.{withBlocked, renewed, newAccount}
+use Rattle.events.specs.Effects.{renewed, newAccount}
 use Rattle.events.specs.Opening.{emptyState, withoutFlag, entered, enteredBelow, openStatus, opening}
 use Rattle.events.proofs.EventLaws.{no-status, and-both}
 use Rattle.events.proofs.OpeningLaws.{Entered, unplaced, below-entered, or-status, opened-sound}
@@ -34,32 +33,13 @@ use Rattle.state.proofs.SoundLaws.{state-in}
 use Rattle.events.specs.Answers.{executive}
 use Rattle.executive.specs.declared.Answer.{Answer}
 use Rattle.executive.specs.Answer.{returned, openAnswer, answered, unread}
+use Rattle.state.specs.Updates.{withLists, withAccount, withBlocked, stateOf}
 
 pub empty-is : (n start : ℕ) (l : List ℕ) → l ≡ replicate 1056 0
-    → record {
-      header = record { n = n; start = start };
-      now = start;
-      idle = 0;
-      word = 0;
-      threads = replicate 32 noThread;
-      counts = replicate 32 0;
-      dues = replicate 256 0;
-      amounts = replicate 256 0;
-      lists = l;
-    }
+    → (stateOf (record { n = n; start = start }) start 0 0 (replicate 32 noThread) (replicate 32 0) (replicate 256 0) (replicate 256 0) l)
     ≡ emptyState n start
 empty-is n start l e =
-    λ x. record {
-      header = record { n = n; start = start };
-      now = start;
-      idle = 0;
-      word = 0;
-      threads = replicate 32 noThread;
-      counts = replicate 32 0;
-      dues = replicate 256 0;
-      amounts = replicate 256 0;
-      lists = e x;
-    }
+    λ x. stateOf (record { n = n; start = start }) start 0 0 (replicate 32 noThread) (replicate 32 0) (replicate 256 0) (replicate 256 0) (e x)
 
 -- ---- the tests
 

@@ -9,66 +9,26 @@ use Rattle.ready.specs.Word.{occupancy}
 use Rattle.state.specs.declared.Thread.{Thread}
 use Rattle.state.specs.declared.State.{State}
 use Rattle.rows.specs.Rows.{withRow}
-use Rattle.state.specs.State.{threadAt, withServer}
+use Rattle.state.specs.State.{threadAt}
 use Rattle.ticks.specs.Running.{level, head}
-use Rattle.moments.specs.Changes.{withLists, withAccount}
 use Rattle.events.specs.Effects.{block, yield, wake, set, byKind, effect}
+use Rattle.state.specs.Updates.{withLists, withAccount, withServer, stateOf}
 
 module _ (s : State) where
   -- another thread and account at place i
   pub put-is : (i : ℕ) (t : Thread) (a : Account) (u : Thread) (d m : List ℕ) → u ≡ withServer (a .server) t
       → d ≡ withRow i (a .pending .dues) (s .dues) → m ≡ withRow i (a .pending .amounts) (s .amounts)
-      → record {
-        header = s .header;
-        now = s .now;
-        idle = s .idle;
-        word = s .word;
-        threads = lists.set (s .threads) i u;
-        counts = lists.set (s .counts) i (a .pending .count);
-        dues = d;
-        amounts = m;
-        lists = s .lists;
-      }
+      → (stateOf (s .header) (s .now) (s .idle) (s .word) (lists.set (s .threads) i u) (lists.set (s .counts) i (a .pending .count)) d m (s .lists))
       ≡ withAccount i t a s
   put-is i t a u d m e f g =
-      λ x. record {
-        header = s .header;
-        now = s .now;
-        idle = s .idle;
-        word = s .word;
-        threads = lists.set (s .threads) i (e x);
-        counts = lists.set (s .counts) i (a .pending .count);
-        dues = f x;
-        amounts = g x;
-        lists = s .lists;
-      }
+      λ x. stateOf (s .header) (s .now) (s .idle) (s .word) (lists.set (s .threads) i (e x)) (lists.set (s .counts) i (a .pending .count)) (f x) (g x) (s .lists)
 
   -- other lists, and the word that goes with them
   pub lists-are : (l k : List ℕ) (w : ℕ) → l ≡ k → w ≡ occupancy k
-      → record {
-        header = s .header;
-        now = s .now;
-        idle = s .idle;
-        word = w;
-        threads = s .threads;
-        counts = s .counts;
-        dues = s .dues;
-        amounts = s .amounts;
-        lists = l;
-      }
+      → (stateOf (s .header) (s .now) (s .idle) w (s .threads) (s .counts) (s .dues) (s .amounts) l)
       ≡ withLists k s
   lists-are l k w e f =
-      λ x. record {
-        header = s .header;
-        now = s .now;
-        idle = s .idle;
-        word = f x;
-        threads = s .threads;
-        counts = s .counts;
-        dues = s .dues;
-        amounts = s .amounts;
-        lists = e x;
-      }
+      λ x. stateOf (s .header) (s .now) (s .idle) (f x) (s .threads) (s .counts) (s .dues) (s .amounts) (e x)
 
 module _ (s : State) where
   -- an event's effect, by its kind

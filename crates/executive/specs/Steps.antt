@@ -11,10 +11,11 @@ use Rattle.ready.specs.Word.{highestOf}
 use Rattle.passing.specs.Sequence.{firstOf}
 use Rattle.state.specs.declared.Thread.{Thread}
 use Rattle.state.specs.State.{isBlocked, placeOf}
-use Rattle.events.specs.Effects.{withBlocked, fullQuantum, ifSporadic, renewed, newAccount, byKind}
+use Rattle.events.specs.Effects.{fullQuantum, ifSporadic, renewed, newAccount, byKind}
 use Rattle.events.specs.Answers.{stateStatusOf}
 use Rattle.executive.specs.declared.effects.Change.{Change}
 use Rattle.executive.specs.Answer.{earlyStatus}
+use Rattle.state.specs.Updates.{withBlocked}
 
 -- Status 15: the status of an event for a sound state; `blocked`: whether the thread it names is
 abbrev pub soundStatus : ℕ → ℕ → ℕ → Bool → Event → ℕ

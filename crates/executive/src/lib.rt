@@ -4,6 +4,7 @@ ghost use mathlib.Core.Bool.{true};
 ghost use lib.ListN.{length};
 ghost use Rattle.state.specs.Sound.{soundState};
 ghost use Rattle.executive.specs.Answer.{eventAnswer, openAnswer};
+ghost use Rattle.state.specs.Updates.{stateOf};
 use account::Account;
 use records::Event;
 use records::Header;
@@ -51,29 +52,9 @@ fn known_sound<'a>(
     amounts: &'a [u64; 256],
     lists: &'a [u8; 1056],
 ) -> bool
-    requires { ⌜ (known ≡ true → soundState (record {
-      header = header;
-      now = time;
-      idle = idle;
-      word = word;
-      threads = threads;
-      counts = now counts;
-      dues = now dues;
-      amounts = now amounts;
-      lists = now lists;
-    }) ≡ true)
+    requires { ⌜ (known ≡ true → soundState (stateOf header time idle word threads (now counts) (now dues) (now amounts) (now lists)) ≡ true)
         × (length (now counts) ≡ 32) × (length (now dues) ≡ 256) × (length (now amounts) ≡ 256) ⌝ }
-    ensures { λ r. ⌜ r ≡ soundState (record {
-      header = header;
-      now = time;
-      idle = idle;
-      word = word;
-      threads = threads;
-      counts = now (counts .entry);
-      dues = now (dues .entry);
-      amounts = now (amounts .entry);
-      lists = now (lists .entry);
-    }) ⌝ }
+    ensures { λ r. ⌜ r ≡ soundState (stateOf header time idle word threads (now (counts .entry)) (now (dues .entry)) (now (amounts .entry)) (now (lists .entry))) ⌝ }
 {
     if known {
         return true;

@@ -20,11 +20,11 @@ use Rattle.passing.proofs.TimeLaws.{due-true, due-false}
 use Rattle.state.specs.declared.Thread.{Thread}
 use Rattle.state.specs.declared.State.{State}
 use Rattle.rows.specs.Rows.{withRow}
-use Rattle.state.specs.State.{isBlocked, threadAt, pendingAt, accountAt, withServer}
+use Rattle.state.specs.State.{isBlocked, threadAt, pendingAt, accountAt}
 use Rattle.rows.proofs.RowLaws.{row-length}
 use Rattle.ticks.specs.declared.Due.{Due}
 use Rattle.ticks.specs.Running.{level, head, ran, charge, limit, nextDue, next}
-use Rattle.moments.specs.Changes.{withLeft, sentTo, withEffect}
+use Rattle.moments.specs.Changes.{sentTo, withEffect}
 use Rattle.moments.specs.Moments.{quantumEnded, limits, passed}
 use Rattle.moments.proofs.DueLaws.{found, row-first, earlier-left}
 use Rattle.moments.proofs.InsertLaws.{afterLimit, after-limit-is, limit-entries}
@@ -32,21 +32,12 @@ use Rattle.moments.proofs.ChargeLaws.{limit-later}
 use Rattle.moments.proofs.TurnLaws.{firstOf, first-later, Going, weight, turn-rest, turn-limit, due-some, not-past, charged-going, turn-due}
 use Rattle.moments.proofs.SeenLaws.{Seen, seen-head, seen-at, seen-small, seen-limit, seen-next, charge-fits, charge-place}
 use Rattle.moments.proofs.StepLaws.{Sendable, limit-not-upper, limit-runs, limit-thread, quantum-movable, quantum-is, limited-present, limited-is, limited-requires, limited-sendable, due-sendable}
+use Rattle.state.specs.Updates.{withLeft, withServer, stateOf}
 
 -- ticks charged in place: the time, the idle time, and thread i
 abbrev pub withTicks : ℕ → ℕ → ℕ → Thread → State → State
 withTicks i now idle w s =
-    record {
-      header = s .header;
-      now = now;
-      idle = idle;
-      word = s .word;
-      threads = set (s .threads) i w;
-      counts = s .counts;
-      dues = s .dues;
-      amounts = s .amounts;
-      lists = s .lists;
-    }
+    stateOf (s .header) now idle (s .word) (set (s .threads) i w) (s .counts) (s .dues) (s .amounts) (s .lists)
 
 -- an effect put in place: what the writes leave
 pub record Put (u : State) (j : ℕ) (e : Effect) : Type 0 where
@@ -67,31 +58,11 @@ pub record Put (u : State) (j : ℕ) (e : Effect) : Type 0 where
 
 abbrev pub putState : (u : State) (j : ℕ) (e : Effect) → Put u j e → State
 putState u j e p =
-    record {
-      header = u .header;
-      now = u .now;
-      idle = u .idle;
-      word = p .word;
-      threads = set (u .threads) j (p .thread);
-      counts = set (u .counts) j (p .count);
-      dues = p .dues;
-      amounts = p .amounts;
-      lists = p .lists;
-    }
+    stateOf (u .header) (u .now) (u .idle) (p .word) (set (u .threads) j (p .thread)) (set (u .counts) j (p .count)) (p .dues) (p .amounts) (p .lists)
 
 put-is : (u : State) (j : ℕ) (e : Effect) (p : Put u j e) → putState u j e p ≡ withEffect j e u
 put-is u j e p =
-    λ y. record {
-      header = u .header;
-      now = u .now;
-      idle = u .idle;
-      word = (p .word-is ∙ ap (λ (k : ℕ). occupancy (sentTo (e .place) k (threadAt u j .parameters) (u .lists))) (p .number-is)) y;
-      threads = set (u .threads) j (p .thread-is y);
-      counts = set (u .counts) j (p .count-is y);
-      dues = p .dues-is y;
-      amounts = p .amounts-is y;
-      lists = (p .lists-is ∙ ap (λ (k : ℕ). sentTo (e .place) k (threadAt u j .parameters) (u .lists)) (p .number-is)) y;
-    }
+    λ y. stateOf (u .header) (u .now) (u .idle) ((p .word-is ∙ ap (λ (k : ℕ). occupancy (sentTo (e .place) k (threadAt u j .parameters) (u .lists))) (p .number-is)) y) (set (u .threads) j (p .thread-is y)) (set (u .counts) j (p .count-is y)) (p .dues-is y) (p .amounts-is y) ((p .lists-is ∙ ap (λ (k : ℕ). sentTo (e .place) k (threadAt u j .parameters) (u .lists)) (p .number-is)) y)
 
 -- what holds between turns: time goes on as it did before, and x is the next due
 pub record Between (s₀ : State) (t n : ℕ) (s : State) (x : Due) : Type 0 where
@@ -218,17 +189,7 @@ module _ (r : Turn) where
 
   pub last : dueBy m t ≡ false → (idle : ℕ) (w : Thread) → idle ≡ s .idle + cond (eqb p 0) (t - s .now) 0
       → w ≡ cond (eqb p 0) (threadAt s i) (ran p (t - s .now) (threadAt s i))
-      → _≡_ {A = State} (record {
-        header = s .header;
-        now = t;
-        idle = idle;
-        word = s .word;
-        threads = set (s .threads) i w;
-        counts = s .counts;
-        dues = s .dues;
-        amounts = s .amounts;
-        lists = s .lists;
-      }) (passed s₀ t)
+      → _≡_ {A = State} (stateOf (s .header) t idle (s .word) (set (s .threads) i w) (s .counts) (s .dues) (s .amounts) (s .lists)) (passed s₀ t)
   last b idle w fi fw =
       let n : t ≡ s .now + (t - s .now) = omega (arith, g .by) in
       charge-place (λ i. s .now - 1) s (g .mid) x p h i l m v (t - s .now) t idle w n fi fw
@@ -320,17 +281,7 @@ module _ (r : Turn) where
           (fo : o ≡ occupancy (moved h p p (s .lists))) (fl : ls ≡ moved h p p (s .lists)) where
         abbrev ended : State
         ended =
-            record {
-              header = s .header;
-              now = m;
-              idle = idle;
-              word = o;
-              threads = set (s .threads) i f;
-              counts = s .counts;
-              dues = s .dues;
-              amounts = s .amounts;
-              lists = ls;
-            }
+            stateOf (s .header) m idle o (set (s .threads) i f) (s .counts) (s .dues) (s .amounts) ls
 
         ended-is : ended ≡ limits (charge (next s - s .now) s)
         ended-is =
@@ -342,17 +293,7 @@ module _ (r : Turn) where
           where
             placed : ended ≡ quantumEnded p i w u
             placed =
-                λ y. record {
-                  header = s .header;
-                  now = m;
-                  idle = idle;
-                  word = (fo ∙ ap (λ (k : ℕ). occupancy (moved k p p (s .lists))) (sym (v .at))) y;
-                  threads = (sym (set-set (s .threads) i w f) ∙ ap (set (set (s .threads) i w) i) ff) y;
-                  counts = s .counts;
-                  dues = s .dues;
-                  amounts = s .amounts;
-                  lists = (fl ∙ ap (λ (k : ℕ). moved k p p (s .lists)) (sym (v .at))) y;
-                }
+                λ y. stateOf (s .header) m idle ((fo ∙ ap (λ (k : ℕ). occupancy (moved k p p (s .lists))) (sym (v .at))) y) ((sym (set-set (s .threads) i w f) ∙ ap (set (set (s .threads) i w) i) ff) y) (s .counts) (s .dues) (s .amounts) ((fl ∙ ap (λ (k : ℕ). moved k p p (s .lists)) (sym (v .at))) y)
 
         pub ended-turn : Going s₀ t ended × (weight t ended < weight t s)
         ended-turn = subst⁻¹ (λ (a : State). Going s₀ t a × (weight t a < weight t s)) ended-is (turn-limit s₀ s t g (some b) (by b) top limited)

@@ -18,11 +18,11 @@ use Rattle.ready.proofs.SoundLaws.{withPlace, sound-same}
 use Rattle.state.specs.declared.Thread.{Thread}
 use Rattle.state.specs.declared.State.{State}
 use Rattle.rows.specs.Rows.{rowAt, withRow}
-use Rattle.state.specs.State.{noThread, threadAt, pendingAt, placeOf, place, withServer}
+use Rattle.state.specs.State.{noThread, threadAt, pendingAt, placeOf, place}
 use Rattle.state.specs.Sound.{totals}
 use Rattle.rows.proofs.RowLaws.{row-same}
 use Rattle.state.proofs.SoundLaws.{ThreadSound, SoundFrom, sizeTests}
-use Rattle.moments.specs.Changes.{withThread, withLists, withAccount}
+use Rattle.state.specs.Updates.{withThread, withLists, withAccount, withServer, stateOf}
 
 -- ---- rows
 
@@ -140,14 +140,4 @@ changed lo s h i l t a x d m ok same l′ q =
 -- another thread alone is another thread with the account that was there
 pub thread-account : (i : ℕ) (t : Thread) (s : State) → withThread i t s ≡ withAccount i t (record { server = t .server; pending = pendingAt s i }) s
 thread-account i t s =
-    λ k. record {
-      header = s .header;
-      now = s .now;
-      idle = s .idle;
-      word = s .word;
-      threads = set (s .threads) i t;
-      counts = sym (set-getD (s .counts) i 0) k;
-      dues = sym (row-same i (s .dues)) k;
-      amounts = sym (row-same i (s .amounts)) k;
-      lists = s .lists;
-    }
+    λ k. stateOf (s .header) (s .now) (s .idle) (s .word) (set (s .threads) i t) (sym (set-getD (s .counts) i 0) k) (sym (row-same i (s .dues)) k) (sym (row-same i (s .amounts)) k) (s .lists)

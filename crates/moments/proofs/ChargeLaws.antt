@@ -33,6 +33,7 @@ use Rattle.ticks.specs.Running.{level, head, idles, ran, charge, earlier, limit
 use Rattle.ticks.proofs.RunLaws.{by-zero, by-one, by-two}
 use Rattle.moments.proofs.ChangeLaws.{totals-set}
 use Rattle.moments.proofs.DueLaws.{Found, found, row-first, earlier-left, earlier-right, earlier-above}
+use Rattle.state.specs.Updates.{stateOf}
 
 -- the running thread
 pub record Runs (s : State) : Type 0 where
@@ -87,17 +88,7 @@ ran-twice p i j t =
 
 pub charge-add : (lo : ℕ → ℕ) (i j : ℕ) (s : State) → SoundFrom lo s → charge j (charge i s) ≡ charge (i + j) s
 charge-add lo i j s h =
-    λ x. record {
-      header = s .header;
-      now = n x;
-      idle = d (idles s) x;
-      word = s .word;
-      threads = t (idles s) refl x;
-      counts = s .counts;
-      dues = s .dues;
-      amounts = s .amounts;
-      lists = s .lists;
-    }
+    λ x. stateOf (s .header) (n x) (d (idles s) x) (s .word) (t (idles s) refl x) (s .counts) (s .dues) (s .amounts) (s .lists)
   where
     n : s .now + i + j ≡ s .now + (i + j)
     n = omega arith

@@ -28,16 +28,17 @@ use Rattle.ready.proofs.SoundLaws.{withPlace, sound-same, move-sound}
 use Rattle.state.specs.declared.Thread.{Thread}
 use Rattle.state.specs.declared.State.{State}
 use Rattle.rows.specs.Rows.{rowAt}
-use Rattle.state.specs.State.{isBlocked, noServer, noThread, threadAt, pendingAt, accountAt, assigned, placeOf, place, withServer}
+use Rattle.state.specs.State.{isBlocked, noServer, noThread, threadAt, pendingAt, accountAt, assigned, placeOf, place}
 use Rattle.rows.proofs.RowLaws.{row-length}
 use Rattle.state.proofs.SoundLaws.{noPending, ThreadSound, SoundFrom, sizeTests, RrTests, SporadicTests}
 use Rattle.state.proofs.SoundLaws.ThreadSound.{absent, fifo, rr, sporadic}
 use Rattle.ticks.specs.Running.{level, head, idles, ran, charge}
 use Rattle.ticks.proofs.RunLaws.{by-zero, by-one, by-two}
-use Rattle.moments.specs.Changes.{withLists, withLeft, withAccount, sentTo, withEffect}
+use Rattle.moments.specs.Changes.{sentTo, withEffect}
 use Rattle.moments.specs.Moments.{limitsOf, limits}
 use Rattle.moments.proofs.ChangeLaws.{withBound, totals-set, changed-at, thread-account}
 use Rattle.moments.proofs.ChargeLaws.{Runs, runs, upper-at, ran-upper, first-bound, wait-thread}
+use Rattle.state.specs.Updates.{withLists, withLeft, withAccount, withServer, stateOf}
 
 -- ---- nothing happens where nothing is used up
 
@@ -85,31 +86,11 @@ limits-none lo s h = go (idles s) refl
 -- the state after k ticks of a running thread
 abbrev pub ranState : ℕ → State → State
 ranState k s =
-    record {
-      header = s .header;
-      now = s .now + k;
-      idle = s .idle;
-      word = s .word;
-      threads = set (s .threads) (head s) (ran (level s) k (threadAt s (head s)));
-      counts = s .counts;
-      dues = s .dues;
-      amounts = s .amounts;
-      lists = s .lists;
-    }
+    stateOf (s .header) (s .now + k) (s .idle) (s .word) (set (s .threads) (head s) (ran (level s) k (threadAt s (head s)))) (s .counts) (s .dues) (s .amounts) (s .lists)
 
 pub charge-runs : (k : ℕ) (s : State) → idles s ≡ false → charge k s ≡ ranState k s
 charge-runs k s e =
-    λ x. record {
-      header = s .header;
-      now = s .now + k;
-      idle = i x;
-      word = s .word;
-      threads = t x;
-      counts = s .counts;
-      dues = s .dues;
-      amounts = s .amounts;
-      lists = s .lists;
-    }
+    λ x. stateOf (s .header) (s .now + k) (i x) (s .word) (t x) (s .counts) (s .dues) (s .amounts) (s .lists)
   where
     i : s .idle + cond (idles s) k 0 ≡ s .idle
     i = rw e (omega arith)

@@ -26,6 +26,7 @@ use Rattle.ticks.specs.Running.{level, head, idles, ran, charge, earlier, limit
 use Rattle.ticks.proofs.RunLaws.{by-one, by-more, limit-rr, limit-upper}
 use Rattle.moments.proofs.ChargeLaws.{runs, no-word, runner-lasts}
 use Rattle.moments.proofs.TurnLaws.{firstOf}
+use Rattle.state.specs.Updates.{stateOf}
 
 -- the first due, the highest list p, its head i (0 where p is 0), the limit and the next moment
 pub record Seen (s : State) (x : Due) (p h i l m : ℕ) : Type 0 where
@@ -142,29 +143,9 @@ module _ (lo : ℕ → ℕ) (s : State) (a : SoundFrom lo s) (x : Due) (p h i l 
   -- the ticks charged in place
   pub charge-place : (k n idle : ℕ) (t : Thread) → n ≡ s .now + k → idle ≡ s .idle + cond (eqb p 0) k 0
       → t ≡ cond (eqb p 0) (threadAt s i) (ran p k (threadAt s i))
-      → _≡_ {A = State} (record {
-        header = s .header;
-        now = n;
-        idle = idle;
-        word = s .word;
-        threads = set (s .threads) i t;
-        counts = s .counts;
-        dues = s .dues;
-        amounts = s .amounts;
-        lists = s .lists;
-      }) (charge k s)
+      → _≡_ {A = State} (stateOf (s .header) n idle (s .word) (set (s .threads) i t) (s .counts) (s .dues) (s .amounts) (s .lists)) (charge k s)
   charge-place k n idle t e f g =
-      λ y. record {
-        header = s .header;
-        now = e y;
-        idle = (f ∙ ap (λ (b : Bool). s .idle + cond b k 0) same-idle) y;
-        word = s .word;
-        threads = threads (eqb p 0) refl y;
-        counts = s .counts;
-        dues = s .dues;
-        amounts = s .amounts;
-        lists = s .lists;
-      }
+      λ y. stateOf (s .header) (e y) ((f ∙ ap (λ (b : Bool). s .idle + cond b k 0) same-idle) y) (s .word) (threads (eqb p 0) refl y) (s .counts) (s .dues) (s .amounts) (s .lists)
     where
       threads : (b : Bool) → eqb p 0 ≡ b → set (s .threads) i t ≡ cond (idles s) (s .threads) (set (s .threads) (head s) (ran (level s) k (threadAt s (head s))))
       threads true b =

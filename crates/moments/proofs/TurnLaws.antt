@@ -40,6 +40,7 @@ use Rattle.moments.proofs.ChargeLaws.{due-after, wait-thread, next-due,
 use Rattle.moments.proofs.LimitLaws.{limits-none}
 use Rattle.moments.proofs.FireLaws.{bounds-same, first-counted-at, first-returned-sound, keeps-limits}
 use Rattle.moments.proofs.MomentLaws.{before, within-limit, limits-sound, passing}
+use Rattle.state.specs.Updates.{stateOf}
 
 -- the first due of the state
 abbrev pub firstOf : State → Due
@@ -256,17 +257,7 @@ ran-none p t =
 
 charge-none : (s : State) → charge 0 s ≡ s
 charge-none s =
-    λ x. record {
-      header = s .header;
-      now = n x;
-      idle = i (idles s) x;
-      word = s .word;
-      threads = t (idles s) x;
-      counts = s .counts;
-      dues = s .dues;
-      amounts = s .amounts;
-      lists = s .lists;
-    }
+    λ x. stateOf (s .header) (n x) (i (idles s) x) (s .word) (t (idles s) x) (s .counts) (s .dues) (s .amounts) (s .lists)
   where
     n : s .now + 0 ≡ s .now
     n = omega arith

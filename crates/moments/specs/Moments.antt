@@ -11,7 +11,8 @@ use Rattle.state.specs.declared.Thread.{Thread}
 use Rattle.state.specs.declared.State.{State}
 use Rattle.state.specs.State.{isBlocked, threadAt, pendingAt, accountAt}
 use Rattle.ticks.specs.Running.{level, head, idles, charge, next}
-use Rattle.moments.specs.Changes.{withThread, withLists, withLeft, withEffect}
+use Rattle.moments.specs.Changes.{withEffect}
+use Rattle.state.specs.Updates.{withThread, withLists, withLeft}
 
 -- Passing 7: the quantum has ended: the tail of its list p, with a full quantum
 abbrev pub quantumEnded : ℕ → ℕ → Thread → State → State

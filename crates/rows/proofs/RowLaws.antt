@@ -7,12 +7,7 @@ use lib.Seq.{paste, paste-suc, take-all, getD-take, getD-drop, take-set-le, take
 use native.Mathlib.Numerals.{add-one}
 use native.Mathlib.Omega.{arith}
 use Rattle.records.proofs.PartLaws.{replaced-same}
-use Rattle.account.specs.declared.Pending.{Pending}
 use Rattle.rows.specs.Rows.{rowAt, withRow}
-
--- thread i's pending replenishments, in the arrays of all threads
-abbrev pub pendingOf : List ℕ → List ℕ → List ℕ → ℕ → Pending
-pendingOf counts dues amounts i = record { count = getD counts i 0; dues = rowAt i dues; amounts = rowAt i amounts }
 
 -- the first j places are read, and the others are still 0
 abbrev pub readTo : ℕ → List ℕ → ℕ → List ℕ

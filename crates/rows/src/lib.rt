@@ -1,9 +1,9 @@
 // The pending replenishments of all threads: thread i's count, and its eight places of dues and of amounts from i * 8 on.
 ghost use mathlib.Core.Path.{_≡_};
 ghost use Prim.Native.Nat.{_<_};
-ghost use lib.ListN.{length, getD, set};
+ghost use lib.ListN.{length, set};
 ghost use Rattle.account.specs.Rules.{withoutFirst};
-ghost use Rattle.rows.specs.Rows.{rowAt, withRow};
+ghost use Rattle.rows.specs.Rows.{rowAt, withRow, pendingOf};
 use account::Pending;
 
 // Thread i's eight places.
@@ -61,11 +61,7 @@ pub fn pending_at<'a>(
     i: usize,
 ) -> Pending
     requires { ⌜ (i < 32) × (length (now dues) ≡ 256) × (length (now amounts) ≡ 256) ⌝ }
-    ensures { λ r. ⌜ r ≡ record {
-      count = getD (now (counts .entry)) i 0;
-      dues = rowAt i (now (dues .entry));
-      amounts = rowAt i (now (amounts .entry));
-    } ⌝ }
+    ensures { λ r. ⌜ r ≡ pendingOf (now (counts .entry)) (now (dues .entry)) (now (amounts .entry)) i ⌝ }
 {
     Pending {
         count: counts[i],

@@ -9,16 +9,17 @@ use Rattle.account.specs.declared.Server.{Server}
 use Rattle.account.specs.declared.Pending.{Pending}
 use Rattle.account.specs.declared.Account.{Account}
 use Rattle.account.specs.Account.{atUpper}
-use Rattle.rows.specs.Rows.{rowAt}
+use Rattle.rows.specs.Rows.{pendingOf}
 use Rattle.state.specs.declared.Thread.{Thread}
 use Rattle.state.specs.declared.State.{State}
+use Rattle.state.specs.Updates.{threadOf}
 
 -- State 17: no account, no thread: what a place past N holds
 abbrev pub noServer : Server
 noServer = record { capacity = 0; used = 0; activation = 0 }
 
 abbrev pub noThread : Thread
-noThread = record { parameters = noParameters; blocked = 0; total = 0; left = 0; server = noServer }
+noThread = threadOf noParameters 0 0 0 noServer
 
 -- State 2: thread i
 abbrev pub threadAt : State → ℕ → Thread
@@ -28,13 +29,9 @@ threadAt s i = getD (s .threads) i noThread
 abbrev pub isBlocked : Thread → Bool
 isBlocked t = ltb 0 (t .blocked)
 
--- a thread with another server
-abbrev pub withServer : Server → Thread → Thread
-withServer v t = record { parameters = t .parameters; blocked = t .blocked; total = t .total; left = t .left; server = v }
-
 -- State 2: the pending replenishments and the account of thread i
 abbrev pub pendingAt : State → ℕ → Pending
-pendingAt s i = record { count = getD (s .counts) i 0; dues = rowAt i (s .dues); amounts = rowAt i (s .amounts) }
+pendingAt s i = pendingOf (s .counts) (s .dues) (s .amounts) i
 
 abbrev pub accountAt : State → ℕ → Account
 accountAt s i = record { server = threadAt s i .server; pending = pendingAt s i }

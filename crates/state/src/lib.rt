@@ -1,8 +1,9 @@
 // The executive's state, by value, and when it is sound.
 ghost use mathlib.Core.Path.{_≡_};
 ghost use lib.ListN.{length};
-ghost use Rattle.state.specs.State.{withServer, placeOf};
+ghost use Rattle.state.specs.State.{placeOf};
 ghost use Rattle.state.specs.Sound.{soundState};
+ghost use Rattle.state.specs.Updates.{withServer, stateOf};
 use account::Server;
 use records::Header;
 use records::Parameters;
@@ -80,17 +81,7 @@ pub fn sound_parts<'a>(
     lists: &'a [u8; 1056],
 ) -> bool
     requires { ⌜ (length (now counts) ≡ 32) × (length (now dues) ≡ 256) × (length (now amounts) ≡ 256) ⌝ }
-    ensures { λ r. ⌜ r ≡ soundState (record {
-      header = header;
-      now = time;
-      idle = idle;
-      word = word;
-      threads = threads;
-      counts = now (counts .entry);
-      dues = now (dues .entry);
-      amounts = now (amounts .entry);
-      lists = now (lists .entry);
-    }) ⌝ }
+    ensures { λ r. ⌜ r ≡ soundState (stateOf header time idle word threads (now (counts .entry)) (now (dues .entry)) (now (amounts .entry)) (now (lists .entry))) ⌝ }
 {
     if header.n < 1 {
         return false;

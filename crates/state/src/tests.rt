@@ -2,9 +2,9 @@
 ghost use mathlib.Core.Path.{_≡_};
 ghost use mathlib.Core.Bool.{cond};
 ghost use Prim.Native.Nat.{_<_};
-ghost use lib.ListN.{length, getD};
+ghost use lib.ListN.{length};
 ghost use Rattle.records.specs.Tests.{all, zeros};
-ghost use Rattle.rows.specs.Rows.{rowAt};
+ghost use Rattle.rows.specs.Rows.{rowAt, pendingOf};
 ghost use Rattle.state.specs.Sound.{noAccountTests, leftTests, accountTest, presentTest, absentTest};
 use super::Thread;
 use account::Account;
@@ -39,11 +39,7 @@ fn no_account<'a>(
     i: usize,
 ) -> bool
     requires { ⌜ (i < 32) × (length (now dues) ≡ 256) × (length (now amounts) ≡ 256) ⌝ }
-    ensures { λ r. ⌜ r ≡ all (noAccountTests s (record {
-      count = getD (now (counts .entry)) i 0;
-      dues = rowAt i (now (dues .entry));
-      amounts = rowAt i (now (amounts .entry));
-    })) ⌝ }
+    ensures { λ r. ⌜ r ≡ all (noAccountTests s (pendingOf (now (counts .entry)) (now (dues .entry)) (now (amounts .entry)) i)) ⌝ }
 {
     if s.capacity != 0 {
         return false;
@@ -87,11 +83,7 @@ fn account_holds<'a>(
     i: usize,
 ) -> bool
     requires { ⌜ (i < 32) × (length (now dues) ≡ 256) × (length (now amounts) ≡ 256) ⌝ }
-    ensures { λ r. ⌜ r ≡ accountTest start time t (record {
-      count = getD (now (counts .entry)) i 0;
-      dues = rowAt i (now (dues .entry));
-      amounts = rowAt i (now (amounts .entry));
-    }) ⌝ }
+    ensures { λ r. ⌜ r ≡ accountTest start time t (pendingOf (now (counts .entry)) (now (dues .entry)) (now (amounts .entry)) i) ⌝ }
 {
     let s = t.server;
     if t.parameters.policy < 2 {
@@ -116,11 +108,7 @@ fn present_sound<'a>(
     i: usize,
 ) -> bool
     requires { ⌜ (i < 32) × (length (now dues) ≡ 256) × (length (now amounts) ≡ 256) ⌝ }
-    ensures { λ r. ⌜ r ≡ presentTest start time t (record {
-      count = getD (now (counts .entry)) i 0;
-      dues = rowAt i (now (dues .entry));
-      amounts = rowAt i (now (amounts .entry));
-    }) ⌝ }
+    ensures { λ r. ⌜ r ≡ presentTest start time t (pendingOf (now (counts .entry)) (now (dues .entry)) (now (amounts .entry)) i) ⌝ }
 {
     let p = t.parameters;
     if !records::in_range(p, 8) {
@@ -147,11 +135,7 @@ fn absent_zero<'a>(
     i: usize,
 ) -> bool
     requires { ⌜ (i < 32) × (length (now dues) ≡ 256) × (length (now amounts) ≡ 256) ⌝ }
-    ensures { λ r. ⌜ r ≡ absentTest t (record {
-      count = getD (now (counts .entry)) i 0;
-      dues = rowAt i (now (dues .entry));
-      amounts = rowAt i (now (amounts .entry));
-    }) ⌝ }
+    ensures { λ r. ⌜ r ≡ absentTest t (pendingOf (now (counts .entry)) (now (dues .entry)) (now (amounts .entry)) i) ⌝ }
 {
     let p = t.parameters;
     if !records::all_zero(p) {
@@ -182,15 +166,7 @@ pub(super) fn thread_holds<'a>(
     i: usize,
 ) -> bool
     requires { ⌜ (i < 32) × (length (now dues) ≡ 256) × (length (now amounts) ≡ 256) ⌝ }
-    ensures { λ r. ⌜ r ≡ cond present (presentTest start time t (record {
-      count = getD (now (counts .entry)) i 0;
-      dues = rowAt i (now (dues .entry));
-      amounts = rowAt i (now (amounts .entry));
-    })) (absentTest t (record {
-      count = getD (now (counts .entry)) i 0;
-      dues = rowAt i (now (dues .entry));
-      amounts = rowAt i (now (amounts .entry));
-    })) ⌝ }
+    ensures { λ r. ⌜ r ≡ cond present (presentTest start time t (pendingOf (now (counts .entry)) (now (dues .entry)) (now (amounts .entry)) i)) (absentTest t (pendingOf (now (counts .entry)) (now (dues .entry)) (now (amounts .entry)) i)) ⌝ }
 {
     if present {
         return present_sound(start, time, t, counts, dues, amounts, i);

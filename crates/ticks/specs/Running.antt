@@ -11,6 +11,7 @@ use Rattle.ready.specs.Lists.{headOf}
 use Rattle.ready.specs.Word.{highestOf}
 use Rattle.state.specs.declared.Thread.{Thread}
 use Rattle.state.specs.declared.State.{State}
+use Rattle.state.specs.Updates.{threadOf, withTime, withAllThreads}
 use Rattle.state.specs.State.{threadAt}
 use Rattle.ticks.specs.declared.Due.{Due}
 
@@ -34,30 +35,16 @@ running s = cond (idles s) 255 (head s)
 -- thread, and moved from capacity to U where p is the upper priority of a sporadic one; at low nothing is charged
 abbrev pub ran : ℕ → ℕ → Thread → Thread
 ran p k t =
-    record {
-      parameters = t .parameters;
-      blocked = t .blocked;
-      total = t .total + k;
-      left = byPolicy (t .parameters .policy) (t .left) (t .left - k) (t .left);
-      server =
-          byPolicy (t .parameters .policy) (t .server) (t .server)
-          (cond (eqb p (t .parameters .priority)) (charged k (t .server)) (t .server));
-    }
+    threadOf (t .parameters) (t .blocked) (t .total + k)
+    (byPolicy (t .parameters .policy) (t .left) (t .left - k) (t .left))
+    (byPolicy (t .parameters .policy) (t .server) (t .server)
+    (cond (eqb p (t .parameters .priority)) (charged k (t .server)) (t .server)))
 
 -- Passing 3: k ticks go by for the running thread, or idle
 abbrev pub charge : ℕ → State → State
 charge k s =
-    record {
-      header = s .header;
-      now = s .now + k;
-      idle = s .idle + cond (idles s) k 0;
-      word = s .word;
-      threads = cond (idles s) (s .threads) (set (s .threads) (head s) (ran (level s) k (threadAt s (head s))));
-      counts = s .counts;
-      dues = s .dues;
-      amounts = s .amounts;
-      lists = s .lists;
-    }
+    withTime (s .now + k) (s .idle + cond (idles s) k 0)
+    (withAllThreads (cond (idles s) (s .threads) (set (s .threads) (head s) (ran (level s) k (threadAt s (head s))))) s)
 
 -- the earlier of two moments, 0 for none
 abbrev pub earlier : ℕ → ℕ → ℕ

@@ -19,6 +19,7 @@ use Rattle.moments.proofs.TurnLaws.{start, firstOf}
 use Rattle.moments.proofs.SeenLaws.{seen-held}
 use Rattle.moments.proofs.AdvanceLaws.{Turn, is-next, rest-fits, rest-idle, last}
 use Rattle.moments.proofs.AnswerLaws.{head-below, running-held, next-requires}
+use Rattle.state.specs.Updates.{stateOf}
 use Rattle.executive.proofs.AnswerLaws.{answered-is}
 use Rattle.executive.proofs.StateLaws.{effect-at}
 use Rattle.executive.proofs.RequiresLaws.{dues-length, amounts-length}
@@ -98,29 +99,29 @@ due-by-requires c κs = tt
 abbrev Still : Type 0
 Still = tie.Else2 Inv-loop μ-loop
 
-abbrev stateOf : Still → State
-stateOf c = c .before .before .before .before .before .before .before .before .before .before .before .loop .s
+abbrev stateHere : Still → State
+stateHere c = c .before .before .before .before .before .before .before .before .before .before .before .loop .s
 
 abbrev eventOf : Still → Event
 eventOf c = c .before .before .before .before .before .before .before .before .before .before .before .before .before .before .before .before .before .before .before .before .before .before .before .before .before .args .e
 
-to-come : (c : Still) → Open (c .before .before .before .before .before .before .before .before .before .before .before .before .before .before .before .before .before .before .before .before .before .before .before .before .before .args .t1) (eventOf c) (stateOf c)
+to-come : (c : Still) → Open (c .before .before .before .before .before .before .before .before .before .before .before .before .before .before .before .before .before .before .before .before .before .before .before .before .before .args .t1) (eventOf c) (stateHere c)
 to-come c = c .before .before .before .before .before .before .before .before .before .before .before .loop .inv .going (c .if2 .left) .1
 
 -- what is known once the next moment is
 abbrev turn : (c : Still) → Turn
 turn c =
     record {
-      origin = stateOf c;
+      origin = stateHere c;
       to = eventOf c .time;
       bounded = to-come c .top;
-      state = stateOf c;
-      going = start (stateOf c) (eventOf c .time) (state-out (stateOf c) (to-come c .sound)) (to-come c .by);
-      first = firstOf (stateOf c);
+      state = stateHere c;
+      going = start (stateHere c) (eventOf c .time) (state-out (stateHere c) (to-come c .sound)) (to-come c .by);
+      first = firstOf (stateHere c);
       list = c .before .before .before .before .before .before .before .before .before .before .highest .result;
       head = c .before .before .before .before .before .before .before .head-at .result;
       at = c .before .before .before .before .before .before .wide .result;
-      limit = cond (eqb (c .before .before .before .before .before .before .before .before .before .before .highest .result) 0) 0 (limitOf (stateOf c .now) (c .before .before .before .before .before .before .before .before .before .before .highest .result) (threadAt (stateOf c) (c .before .before .before .before .before .before .wide .result)));
+      limit = cond (eqb (c .before .before .before .before .before .before .before .before .before .before .highest .result) 0) 0 (limitOf (stateHere c .now) (c .before .before .before .before .before .before .before .before .before .before .highest .result) (threadAt (stateHere c) (c .before .before .before .before .before .before .wide .result)));
       moment = c .before .next-moment .result;
       seen = record {
         first = refl;
@@ -135,19 +136,19 @@ turn c =
 advance-requires : tie.Need-advance-requires Inv-loop μ-loop
 advance-requires c κs = let o = to-come (c .before .before) in (o .sound, o .by, o .top)
 
-is-due : (c : tie.Then3 Inv-loop μ-loop) → dueBy (next (stateOf (c .before .before))) (eventOf (c .before .before) .time) ≡ true
+is-due : (c : tie.Then3 Inv-loop μ-loop) → dueBy (next (stateHere (c .before .before))) (eventOf (c .before .before) .time) ≡ true
 is-due c = ap (λ (m : ℕ). dueBy m (eventOf (c .before .before) .time)) (sym (is-next (turn (c .before .before)))) ∙ sym (c .before .due-by .ensures) ∙ c .if3 .taken
 
 loop-less : tie.Need-loop-less Inv-loop μ-loop
 loop-less c =
     let b = c .before .before .before in
     let o = to-come b in
-    turn-falls _ (eventOf b .time) _ _ (b .if2 .left) (still-due _ (eventOf b) (stateOf b) o (is-due (c .before))) (at-time _ (eventOf b) (stateOf b) o (c .advance .result) (c .advance .ensures))
+    turn-falls _ (eventOf b .time) _ _ (b .if2 .left) (still-due _ (eventOf b) (stateHere b) o (is-due (c .before))) (at-time _ (eventOf b) (stateHere b) o (c .advance .result) (c .advance .ensures))
 
 loop-again : tie.Need-loop-again Inv-loop μ-loop
 loop-again c =
     let b = c .before .before .before in
-    carries _ (eventOf b) _ (stateOf b) (c .before .before .before .before .before .before .before .before .before .before .before .before .before .before .loop .inv .going (b .if2 .left) .0) (to-come b) (c .advance .result) (c .advance .ensures) _ (b .if2 .left)
+    carries _ (eventOf b) _ (stateHere b) (c .before .before .before .before .before .before .before .before .before .before .before .before .before .before .loop .inv .going (b .if2 .left) .0) (to-come b) (c .advance .result) (c .advance .ensures) _ (b .if2 .left)
 
 -- ---- no moment is due by the event's time
 
@@ -178,19 +179,9 @@ still c = c .before .before .before .before .before
 
 abbrev atTime : Charged → State
 atTime c =
-    record {
-      header = stateOf (still c) .header;
-      now = eventOf (still c) .time;
-      idle = c .charged-idle .result;
-      word = stateOf (still c) .word;
-      threads = set (stateOf (still c) .threads) (c .before .before .before .before .before .before .before .before .before .before .before .wide .result) (c .before .charged-thread .result);
-      counts = stateOf (still c) .counts;
-      dues = stateOf (still c) .dues;
-      amounts = stateOf (still c) .amounts;
-      lists = stateOf (still c) .lists;
-    }
+    stateOf (stateHere (still c) .header) (eventOf (still c) .time) (c .charged-idle .result) (stateHere (still c) .word) (set (stateHere (still c) .threads) (c .before .before .before .before .before .before .before .before .before .before .before .wide .result) (c .before .charged-thread .result)) (stateHere (still c) .counts) (stateHere (still c) .dues) (stateHere (still c) .amounts) (stateHere (still c) .lists)
 
-has-passed : (c : Charged) → atTime c ≡ passed (stateOf (still c)) (eventOf (still c) .time)
+has-passed : (c : Charged) → atTime c ≡ passed (stateHere (still c)) (eventOf (still c) .time)
 has-passed c = last (turn (still c)) (not-due (c .before .before .before)) (c .charged-idle .result) (c .before .charged-thread .result) (c .charged-idle .ensures) (c .before .charged-thread .ensures)
 
 accepted : (c : Charged) → c .before .before .before .before .before .before .before .before .before .before .before .before .before .before .before .before .before .status-of .result ≡ 0
@@ -202,7 +193,7 @@ loop-less-2 c = turn-ends _ _ (c .before .before .before .before .before .before
 loop-again-2 : tie.Need-loop-again-2 Inv-loop μ-loop
 loop-again-2 c =
     let b = c .before .before in
-    finishes _ (eventOf (still b)) _ (stateOf (still b)) (accepted b) (to-come (still b)) (atTime b) (has-passed b) (atTime b) (sym (effect-at (atTime b) (eventOf (still b)) 0 (c .if4 .taken)))
+    finishes _ (eventOf (still b)) _ (stateHere (still b)) (accepted b) (to-come (still b)) (atTime b) (has-passed b) (atTime b) (sym (effect-at (atTime b) (eventOf (still b)) 0 (c .if4 .taken)))
 
 concerned-requires : tie.Need-concerned-requires Inv-loop μ-loop
 concerned-requires c κs = tt
@@ -221,7 +212,7 @@ concerns : (c : Named) → Concerns (atTime (then c)) (eventOf (still (then c)))
 concerns c =
     let b = then c in
     let e = eventOf (still b) in
-    let o = arrives _ e (stateOf (still b)) (to-come (still b)) (atTime b) (has-passed b) in
+    let o = arrives _ e (stateHere (still b)) (to-come (still b)) (atTime b) (has-passed b) in
     let l : 0 < e .kind = omega (arith, c .before .before .if4 .left) in
     record {
       sound = o .sound;
@@ -277,7 +268,7 @@ loop-again-3 c =
     let k = c .before .before .before .before .before .before .before .before .before .before .before .before .before .before .before .before .before .before .before .before .before in
     let b = then k in
     let e = eventOf (still b) in
-    finishes _ e _ (stateOf (still b)) (accepted b) (to-come (still b)) (atTime b) (has-passed b) _
+    finishes _ e _ (stateHere (still b)) (accepted b) (to-come (still b)) (atTime b) (has-passed b) _
     (change-is (atTime b) e _ _ (concerns k) _ (c .before .before .before .before .before .before .before .before .before .before .before .before .before .before .before .pending-at .ensures) _ (c .before .before .before .before .before .before .before .before .before .before .before .before .before .change-of .ensures) _ (c .before .before .before .before .before .before .with-server .ensures) _ _ _ _ (c .before .before .before .before .write-row .ensures) (c .before .before .write-row2 .ensures) (c .shift .ensures .0) (c .shift .ensures .1))
 
 pub run-spec : {M : Type 1} → statement M

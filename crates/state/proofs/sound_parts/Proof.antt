@@ -15,6 +15,7 @@ use Rattle.ready.specs.Sound.{soundLists}
 use Rattle.state.specs.declared.State.{State}
 use Rattle.state.specs.State.{threadAt, place}
 use Rattle.state.specs.Sound.{threadTest, totals, soundTests, soundState}
+use Rattle.state.specs.Updates.{stateOf}
 use Rattle.state.proofs.TestLaws.{decided-true, decided-false, _and_, by-last, below-next, below-false, eqb-same}
 use Rattle.state.proofs.ThreadLaws.{Filled, fill-next, fill-end, totals-next, totals-none}
 use Rattle.state.proofs.sound_parts.Statement.{statement}
@@ -72,17 +73,7 @@ module _ {s : State} {left : ℕ} {places : List ℕ} {i : ℕ} (h : Passed s le
 abbrev Inv-loop : tie.InvT-loop
 Inv-loop header time idle word counts dues amounts lists threads n left₀ places₀ i₀ left places i =
     Passed
-    (record {
-      header = header;
-      now = time;
-      idle = idle;
-      word = word;
-      threads = threads;
-      counts = counts;
-      dues = dues;
-      amounts = amounts;
-      lists = lists;
-    })
+    (stateOf header time idle word threads counts dues amounts lists)
     left places i
 
 abbrev μ-loop : tie.MeasureT-loop
@@ -92,17 +83,7 @@ abbrev μ-loop : tie.MeasureT-loop
 abbrev parts : tie.Start Inv-loop μ-loop → State
 parts b =
     let a = b .args in
-    record {
-      header = a .header;
-      now = a .time;
-      idle = a .idle;
-      word = a .word;
-      threads = a .t5;
-      counts = a .counts .now;
-      dues = a .dues .now;
-      amounts = a .amounts .now;
-      lists = a .lists .now;
-    }
+    stateOf (a .header) (a .time) (a .idle) (a .word) (a .t5) (a .counts .now) (a .dues .now) (a .amounts .now) (a .lists .now)
 
 abbrev passing : tie.At-loop Inv-loop μ-loop → State
 passing b = parts (b .before .before .before .before .before .before .before .before .before .before)

@@ -4,10 +4,10 @@ use mathlib.Core.Bool.{false}
 use mathlib.Core.Path.{refl, sym, ap, _∙_}
 use Rattle.state.specs.declared.Thread.{Thread}
 use Rattle.state.specs.State.{placeOf}
-use Rattle.events.specs.Effects.{withBlocked}
 use Rattle.executive.proofs.ChangeLaws.{made, change-at, change-last}
 use Rattle.executive.proofs.effects.change_of.Statement.{statement}
 use Rattle.executive.proofs.effects.change_of.Tie as tie
+use Rattle.state.specs.Updates.{withBlocked}
 
 assigned-place-requires : tie.Need-assigned-place-requires
 assigned-place-requires c κs = search needs

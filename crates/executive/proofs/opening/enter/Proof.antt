@@ -6,11 +6,11 @@ use borrow.Author.Tests.{ne-eqb}
 use Rattle.ready.specs.Rules.{Joinable}
 use Rattle.state.specs.declared.State.{State}
 use Rattle.state.specs.State.{threadAt}
-use Rattle.events.specs.Effects.{withBlocked}
 use Rattle.executive.proofs.StateLaws.{lists-are}
 use Rattle.executive.proofs.OpenLaws.{enters-blocked, enters-list}
 use Rattle.executive.proofs.opening.enter.Statement.{statement}
 use Rattle.executive.proofs.opening.enter.Tie as tie
+use Rattle.state.specs.Updates.{withBlocked}
 
 wide-requires : tie.Need-wide-requires
 wide-requires c κs = search needs

@@ -2,9 +2,9 @@
 use borrow.Author.Needs.{needs}
 use Prim.Native.Nat.{ℕ}
 use mathlib.Core.Path.{ap}
-use Rattle.moments.specs.Changes.{withLeft}
 use Rattle.executive.proofs.parts.full_quantum.Statement.{statement}
 use Rattle.executive.proofs.parts.full_quantum.Tie as tie
+use Rattle.state.specs.Updates.{withLeft}
 
 refilled-requires : tie.Need-refilled-requires
 refilled-requires c κs = search needs

@@ -10,7 +10,7 @@ use Rattle.records.proofs.TestLaws.{all-false}
 use Rattle.account.specs.declared.Pending.{Pending}
 use Rattle.state.specs.declared.Thread.{Thread}
 use Rattle.state.specs.Sound.{noAccountTests, absentTest}
-use Rattle.rows.proofs.RowLaws.{pendingOf}
+use Rattle.rows.specs.Rows.{pendingOf}
 use Rattle.state.proofs.TestLaws.{decided-true, decided-false, _and_, by-last}
 use borrow.Author.Needs.{needs}
 use Rattle.state.proofs.tests.absent_zero.Statement.{statement}
