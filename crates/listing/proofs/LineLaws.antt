@@ -5,44 +5,50 @@ use native.Mathlib.Omega.{arith}
 use lib.ListN.{length, length-append}
 use mir.Val.{Fits}
 use mir.Syntax.{w8, w64}
+use Rattle.records.specs.Ranges.{mostThreads}
+use Rattle.trace_records.specs.Layout.{mostEvents}
 use Rattle.text.specs.Placed.{Put}
 use Rattle.text.specs.Decimal.{decimal}
+use Rattle.text.specs.Fields.{field, space, newline, labelled, row}
 use Rattle.text.proofs.DecimalLaws.{digits-fit}
-use Rattle.listing.specs.Lines.{field, space, newline, threadWord, idleWord, refusedWord, eventLine, threadLine, idleLine, refusedLine}
+use Rattle.listing.specs.Lines.{threadWord, eventLine, threadLine}
+use Rattle.listing.specs.Private.{byteField, longField, eventLineMost, threadLineMost}
 
 -- a number below 10 ^ k and the byte after it
 field-length : (k n end : ℕ) → 0 < k → n < 10 ^ k → length (field n end) ≤ k + 1
 unfolding field
 field-length k n end p h = omega (arith, length-append (decimal n) (end ∷ []), digits-fit k n p h)
 
-four-length : (a b c d : List ℕ) (k l m n : ℕ) → length a ≤ k → length b ≤ l → length c ≤ m → length d ≤ n → length (a ++ b ++ c ++ d) ≤ k + l + m + n
-four-length a b c d k l m n p q r s = omega (arith, length-append (a ++ b ++ c) d, length-append (a ++ b) c, length-append a b)
+byte-length : {n : ℕ} (end : ℕ) → Fits w8 n → length (field n end) ≤ byteField
+byte-length {n} end h = field-length 3 n end (omega arith) (omega arith)
 
-pub event-length : (i : ℕ) {status running next : ℕ} → i < 10000 → Fits w8 status → Fits w8 running → Fits w64 next → length (eventLine i status running next) ≤ 34
+long-length : {n : ℕ} (end : ℕ) → Fits w64 n → length (field n end) ≤ longField
+long-length {n} end h = field-length 20 n end (omega arith) (omega arith)
+
+row-length : (a b c d : ℕ) {k l m n : ℕ} → length (field a space) ≤ k → length (field b space) ≤ l → length (field c space) ≤ m → length (field d newline) ≤ n
+    → length (row a b c d) ≤ k + l + m + n
+unfolding row
+row-length a b c d p q r s =
+    let three : List ℕ = field a space ++ field b space ++ field c space in
+    omega (arith, length-append three (field d newline), length-append (field a space ++ field b space) (field c space), length-append (field a space) (field b space))
+
+pub event-length : (i : ℕ) {status running next : ℕ} → i < mostEvents → Fits w8 status → Fits w8 running → Fits w64 next → length (eventLine i status running next) ≤ eventLineMost
 unfolding eventLine
 event-length i {status} {running} {next} a b c d =
-    four-length (field i space) (field status space) (field running space) (field next newline) 5 4 4 21
-    (field-length 4 i space (omega arith) a)
-    (field-length 3 status space (omega arith) (omega arith))
-    (field-length 3 running space (omega arith) (omega arith))
-    (field-length 20 next newline (omega arith) (omega arith))
+    row-length i status running next (field-length 4 i space (omega arith) (omega arith)) (byte-length space b) (byte-length space c) (long-length newline d)
 
-pub thread-length : (i : ℕ) {capacity count total : ℕ} → i < 100 → Fits w64 capacity → Fits w8 count → Fits w64 total → length (threadLine i capacity count total) ≤ 56
+pub thread-length : (i : ℕ) {capacity count total : ℕ} → i < mostThreads → Fits w64 capacity → Fits w8 count → Fits w64 total → length (threadLine i capacity count total) ≤ threadLineMost
 unfolding threadLine
 thread-length i {capacity} {count} {total} a b c d =
-    four-length (threadWord ++ field i space) (field capacity space) (field count space) (field total newline) 10 21 4 21
-    (omega (arith, length-append threadWord (field i space), field-length 2 i space (omega arith) a))
-    (field-length 20 capacity space (omega arith) (omega arith))
-    (field-length 3 count space (omega arith) (omega arith))
-    (field-length 20 total newline (omega arith) (omega arith))
+    omega (
+      arith,
+      length-append threadWord (row i capacity count total),
+      row-length i capacity count total (field-length 2 i space (omega arith) (omega arith)) (long-length space b) (byte-length space c) (long-length newline d),
+    )
 
-pub idle-length : {idle : ℕ} → Fits w64 idle → length (idleLine idle) ≤ 26
-unfolding idleLine
-idle-length {idle} h = omega (arith, length-append idleWord (field idle newline), field-length 20 idle newline (omega arith) (omega arith))
-
-pub refused-length : {n : ℕ} → Fits w8 n → length (refusedLine n) ≤ 12
-unfolding refusedLine
-refused-length {n} h = omega (arith, length-append refusedWord (field n newline), field-length 3 n newline (omega arith) (omega arith))
+pub labelled-length : (word : List ℕ) {n : ℕ} → Fits w64 n → length (labelled word n) ≤ length word + longField
+unfolding labelled
+labelled-length word {n} h = omega (arith, length-append word (field n newline), long-length newline h)
 
 -- a line of at most k bytes has room where k bytes are left, and ends at most k bytes on
 pub within : {n k m : ℕ} (at : ℕ) → n ≤ k → at + k ≤ m → at + n ≤ m

@@ -13,6 +13,7 @@ use Rattle.state.specs.declared.State.{State}
 use Rattle.text.specs.Placed.{placed, Put}
 use Rattle.text.proofs.PlacedLaws.{after}
 use Rattle.executive.specs.declared.Answer.{Answer}
+use Rattle.trace_records.specs.Layout.{mostEvents, longestFile}
 use Rattle.trace_records.specs.Records.{fieldsOf}
 use Rattle.trace_contents.specs.Read.{headerRight, readStatus}
 use Rattle.trace_contents.proofs.ReadLaws.{right, read-refused}
@@ -42,8 +43,8 @@ refusal-put {o} {o₁} {r} file b e n p =
 module _ {o o₁ o₂ o₃ : List ℕ} {r₁ r₂ r₃ : ℕ} (file : List ℕ) (s : State) (h₁ : r₁ ≤ length o) (h₂ : r₂ ≤ length o)
     (p : Put o 0 headerLine o₁ r₁) (q : Put o₂ r₂ (threadLines s (s .header .n) ++ idleLine (s .idle)) o₃ r₃) where
   replay-of : begunOf file .status ≡ 0
-      → Put o₁ r₁ (eventLines 0 (answersFrom (begunOf file .answer .state) file (begunOf file .offset) 1500)) o₂ r₂
-      → s ≡ endFrom (begunOf file .answer .state) file (begunOf file .offset) 1500
+      → Put o₁ r₁ (eventLines 0 (answersFrom (begunOf file .answer .state) file (begunOf file .offset) mostEvents)) o₂ r₂
+      → s ≡ endFrom (begunOf file .answer .state) file (begunOf file .offset) mostEvents
       → Put o 0 (listingOf file) o₃ r₃
   unfolding begunOf replayOf
   replay-of z d e =
@@ -59,14 +60,14 @@ module _ {o o₁ o₂ o₃ : List ℕ} {r₁ r₂ r₃ : ℕ} (file : List ℕ) 
       (after h₂ (after h₁ p events) rest)
 
   pub replay-put : (b : Begun) → b ≡ begunOf file → b .status ≡ 0
-      → Put o₁ r₁ (eventLines 0 (answersFrom (b .answer .state) file (b .offset) 1500)) o₂ r₂
-      → s ≡ endFrom (b .answer .state) file (b .offset) 1500
+      → Put o₁ r₁ (eventLines 0 (answersFrom (b .answer .state) file (b .offset) mostEvents)) o₂ r₂
+      → s ≡ endFrom (b .answer .state) file (b .offset) mostEvents
       → Put o 0 (listingOf file) o₃ r₃
   replay-put b e =
       subst⁻¹
       (λ (x : Begun). x .status ≡ 0
-      → Put o₁ r₁ (eventLines 0 (answersFrom (x .answer .state) file (x .offset) 1500)) o₂ r₂
-      → s ≡ endFrom (x .answer .state) file (x .offset) 1500
+      → Put o₁ r₁ (eventLines 0 (answersFrom (x .answer .state) file (x .offset) mostEvents)) o₂ r₂
+      → s ≡ endFrom (x .answer .state) file (x .offset) mostEvents
       → Put o 0 (listingOf file) o₃ r₃)
       e
       replay-of
@@ -123,14 +124,14 @@ listed-part file room left r e l =
     (h, sym (length-take-le (r .length) left h))
 
 -- a file longer than any trace
-long-status : (s : List ℕ) → 60800 < length s → readStatus s ≡ 11
+long-status : (s : List ℕ) → longestFile < length s → readStatus s ≡ 11
 long-status s h = go (headerRight (fieldsOf s)) refl
   where
     go : (b : Bool) → headerRight (fieldsOf s) ≡ b → readStatus s ≡ 11
     go false e = read-refused s (fieldsOf s) 1 refl (le-ltb (length s) 32 (omega arith), tt) (ap not e)
     go true e =
         let r = right (fieldsOf s) e in
-        let t : fieldsOf s .total ≤ 60800 = omega (arith, r .total, r .most, r .count) in
+        let t : fieldsOf s .total ≤ longestFile = omega (arith, r .total, r .most, r .count) in
         read-refused s (fieldsOf s) 3 refl
         (le-ltb (length s) 32 (omega arith), (ap not e, (le-ltb (length s) (fieldsOf s .total) (omega arith), tt)))
         (lt-ltb (fieldsOf s .total) (length s) (omega arith))

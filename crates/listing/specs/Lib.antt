@@ -1,3 +1,4 @@
--- What a reader of `listing` must believe.
+-- What a reader of `listing` must believe. `Private` is cited by private functions alone.
 pub mod Lines
 pub mod Listing
+pub mod Private

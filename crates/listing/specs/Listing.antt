@@ -5,6 +5,7 @@ use mathlib.Core.List.{List, _++_}
 use mathlib.Core.Path.{_≡_}
 use lib.Dec.{leb, eqb}
 use lib.ListN.{length, drop}
+use Rattle.trace_records.specs.Layout.{longestFile}
 use Rattle.replay_steps.specs.FileSteps.{begunOf, answersTo, closing}
 use Rattle.listing.specs.declared.Listed.{Listed}
 use Rattle.listing.specs.Lines.{headerLine, eventLines, threadLines, idleLine, refusedLine}
@@ -31,6 +32,6 @@ bufferOf file out = cond (leb (length (listingOf file)) (length out)) (listingOf
 abbrev pub largest : ℕ
 largest = 54000
 
--- Status 12: a file longer than any trace, 32 + 24 * 32 + 40 * 1500 bytes, is refused with 11 whatever it holds. So its first bytes, if they are more than these, have the listing that all of it has.
+-- Status 12: a file longer than any trace is refused with 11 whatever it holds. So its first bytes, if they are more than these, have the listing that all of it has.
 abbrev pub LongIsRefused : Type 0
-LongIsRefused = (file : List ℕ) → 60800 < length file → listingOf file ≡ refusedLine 11
+LongIsRefused = (file : List ℕ) → longestFile < length file → listingOf file ≡ refusedLine 11

@@ -2,19 +2,13 @@
 ghost use Prim.Native.Nat.{_+_, _<_, _≤_};
 ghost use lib.ListN.{length};
 ghost use Rattle.text.specs.Placed.{Put};
-ghost use Rattle.listing.specs.Lines.{field, headerLine, eventLine, threadLine, idleLine, refusedLine};
-use text::put_byte;
-use text::put_number;
+ghost use Rattle.records.specs.Ranges.{mostThreads};
+ghost use Rattle.trace_records.specs.Layout.{mostEvents};
+ghost use Rattle.text.specs.Fields.{labelled};
+ghost use Rattle.listing.specs.Lines.{headerLine, eventLine, threadLine};
+ghost use Rattle.listing.specs.Private.{longField, eventLineMost, threadLineMost};
+use text::put_row;
 use text::put_word;
-
-// A number and a byte after it.
-fn put_field(out: &mut [u8], at: usize, n: u64, end: u8) -> usize
-    requires { ⌜ at + length (field n end) ≤ length (now out) ⌝ }
-    ensures { λ r. ⌜ Put (now (out .entry)) at (field n end) (now (out .exit)) r ⌝ }
-{
-    let here = put_number(out, at, n);
-    put_byte(out, here, end)
-}
 
 // The line of event i: its status, the running thread, the next moment.
 pub(super) fn put_event(
@@ -25,14 +19,11 @@ pub(super) fn put_event(
     running: u8,
     next: u64,
 ) -> usize
-    requires { ⌜ (i < 10000) × (at + 34 ≤ length (now out)) ⌝ }
+    requires { ⌜ (i < mostEvents) × (at + eventLineMost ≤ length (now out)) ⌝ }
     ensures { λ r. ⌜ Put (now (out .entry)) at (eventLine i status running next) (now (out .exit)) r ⌝ }
-    ensures { λ r. ⌜ r ≤ at + 34 ⌝ }
+    ensures { λ r. ⌜ r ≤ at + eventLineMost ⌝ }
 {
-    let b = put_field(out, at, i, b' ');
-    let c = put_field(out, b, status as u64, b' ');
-    let d = put_field(out, c, running as u64, b' ');
-    put_field(out, d, next, b'\n')
+    put_row(out, at, i, status as u64, running as u64, next)
 }
 
 // The line of thread i: its capacity, its pending count, its total.
@@ -44,35 +35,21 @@ pub(super) fn put_thread(
     count: u8,
     total: u64,
 ) -> usize
-    requires { ⌜ (i < 100) × (at + 56 ≤ length (now out)) ⌝ }
+    requires { ⌜ (i < mostThreads) × (at + threadLineMost ≤ length (now out)) ⌝ }
     ensures { λ r. ⌜ Put (now (out .entry)) at (threadLine i capacity count total) (now (out .exit)) r ⌝ }
-    ensures { λ r. ⌜ r ≤ at + 56 ⌝ }
+    ensures { λ r. ⌜ r ≤ at + threadLineMost ⌝ }
 {
-    let a = put_word(out, at, b"thread ");
-    let b = put_field(out, a, i, b' ');
-    let c = put_field(out, b, capacity, b' ');
-    let d = put_field(out, c, count as u64, b' ');
-    put_field(out, d, total, b'\n')
+    let here = put_word(out, at, b"thread ");
+    put_row(out, here, i, capacity, count as u64, total)
 }
 
-// The line of the idle time.
-pub(super) fn put_idle(out: &mut [u8], at: usize, idle: u64) -> usize
-    requires { ⌜ at + 26 ≤ length (now out) ⌝ }
-    ensures { λ r. ⌜ Put (now (out .entry)) at (idleLine idle) (now (out .exit)) r ⌝ }
-    ensures { λ r. ⌜ r ≤ at + 26 ⌝ }
+// The line of a word and a number: of the idle time, or of a refusal.
+pub(super) fn put_labelled(out: &mut [u8], at: usize, word: &[u8], n: u64) -> usize
+    requires { ⌜ at + (length (now word) + longField) ≤ length (now out) ⌝ }
+    ensures { λ r. ⌜ Put (now (out .entry)) at (labelled (now (word .entry)) n) (now (out .exit)) r ⌝ }
+    ensures { λ r. ⌜ r ≤ at + (length (now (word .entry)) + longField) ⌝ }
 {
-    let a = put_word(out, at, b"idle ");
-    put_field(out, a, idle, b'\n')
-}
-
-// The line of a file that can't be replayed.
-pub(super) fn put_refused(out: &mut [u8], at: usize, status: u8) -> usize
-    requires { ⌜ at + 12 ≤ length (now out) ⌝ }
-    ensures { λ r. ⌜ Put (now (out .entry)) at (refusedLine status) (now (out .exit)) r ⌝ }
-    ensures { λ r. ⌜ r ≤ at + 12 ⌝ }
-{
-    let a = put_word(out, at, b"refused ");
-    put_field(out, a, status as u64, b'\n')
+    text::put_labelled(out, at, word, n)
 }
 
 // The first line: what the columns of the events are.

@@ -4,11 +4,13 @@ ghost use mathlib.Core.Bool.{true};
 ghost use mathlib.Core.List.{_++_};
 ghost use Prim.Native.Nat.{_+_, _≤_};
 ghost use lib.ListN.{length};
+ghost use Rattle.trace_records.specs.Layout.{mostEvents};
 ghost use Rattle.state.specs.Sound.{soundState};
 ghost use Rattle.text.specs.Placed.{Put};
 ghost use Rattle.replay_steps.specs.FileSteps.{answersFrom, endFrom};
 ghost use Rattle.listing.specs.Lines.{eventLines, threadLines, idleLine};
 ghost use Rattle.listing.specs.Listing.{listingOf, largest};
+ghost use Rattle.listing.specs.Private.{eventLinesMost, closingMost};
 use super::lines;
 use state::State;
 use trace_records::EVENTS;
@@ -21,9 +23,9 @@ struct Ended {
 
 // A line for each event from an offset on.
 fn put_events(out: &mut [u8], at: usize, opened: State, file: &[u8], first: usize) -> Ended
-    requires { ⌜ (soundState opened ≡ true) × (at + 51000 ≤ length (now out)) ⌝ }
-    ensures { λ r. ⌜ Put (now (out .entry)) at (eventLines 0 (answersFrom opened (now (file .entry)) first 1500)) (now (out .exit)) (r .at) ⌝ }
-    ensures { λ r. ⌜ (r .state ≡ endFrom opened (now (file .entry)) first 1500) × (soundState (r .state) ≡ true) × (r .at ≤ at + 51000) ⌝ }
+    requires { ⌜ (soundState opened ≡ true) × (at + eventLinesMost ≤ length (now out)) ⌝ }
+    ensures { λ r. ⌜ Put (now (out .entry)) at (eventLines 0 (answersFrom opened (now (file .entry)) first mostEvents)) (now (out .exit)) (r .at) ⌝ }
+    ensures { λ r. ⌜ (r .state ≡ endFrom opened (now (file .entry)) first mostEvents) × (soundState (r .state) ≡ true) × (r .at ≤ at + eventLinesMost) ⌝ }
 {
     let mut s = opened;
     let mut offset = first;
@@ -51,9 +53,9 @@ fn put_events(out: &mut [u8], at: usize, opened: State, file: &[u8], first: usiz
 
 // A line for each thread, and the idle line.
 fn put_threads(out: &mut [u8], at: usize, s: State) -> usize
-    requires { ⌜ (soundState s ≡ true) × (at + 2000 ≤ length (now out)) ⌝ }
+    requires { ⌜ (soundState s ≡ true) × (at + closingMost ≤ length (now out)) ⌝ }
     ensures { λ r. ⌜ Put (now (out .entry)) at (threadLines s (s .header .n) ++ idleLine (s .idle)) (now (out .exit)) r ⌝ }
-    ensures { λ r. ⌜ r ≤ at + 2000 ⌝ }
+    ensures { λ r. ⌜ r ≤ at + closingMost ⌝ }
 {
     let n = s.header.n as usize;
     let mut here = at;
@@ -63,7 +65,7 @@ fn put_threads(out: &mut [u8], at: usize, s: State) -> usize
         here = lines::put_thread(out, here, i as u64, t.server.capacity, s.counts[i], t.total);
         i += 1;
     }
-    lines::put_idle(out, here, s.idle)
+    lines::put_labelled(out, here, b"idle ", s.idle)
 }
 
 // The whole listing from the buffer's start on.
@@ -75,7 +77,7 @@ pub(super) fn put_listing(out: &mut [u8], file: &[u8]) -> usize
     let begun = replay_steps::begin(file);
     let status = begun.status;
     if status != 0 {
-        return lines::put_refused(out, 0, status);
+        return lines::put_labelled(out, 0, b"refused ", status as u64);
     }
     let a = begun.answer;
     let opened = a.state;

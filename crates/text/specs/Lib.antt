@@ -1,3 +1,4 @@
 -- What a reader of `text` must believe.
 pub mod Decimal
+pub mod Fields
 pub mod Placed

@@ -8,7 +8,9 @@ use borrow.Author.Tests.{not-true, not-false}
 use Rattle.state.specs.Sound.{soundState}
 use Rattle.replay_steps.specs.FileSteps.{answersFrom, endFrom}
 use Rattle.replay_steps.proofs.FileLaws.{goes-on, stops-here, none-left}
+use Rattle.trace_records.specs.Layout.{mostEvents}
 use Rattle.listing.specs.Lines.{eventLines}
+use Rattle.listing.specs.Private.{eventLineMost}
 use Rattle.listing.proofs.PrintLaws.{Printed, printed-none, printed-next, printed-all, line-next, line-none}
 use Rattle.listing.proofs.replay.put_events.Statement.{statement}
 use Rattle.listing.proofs.replay.put_events.Tie as tie
@@ -19,15 +21,15 @@ use Rattle.replay_steps.proofs.step_at.Reads as step-at-reads
 
 abbrev Inv-loop : tie.InvT-loop
 Inv-loop out₀ at file first s₀ offset₀ here₀ i₀ out s offset here i =
-    (i ≤ 1500)
+    (i ≤ mostEvents)
     × (soundState s ≡ true)
     × (length out ≡ length out₀)
-    × (here ≤ at + 34 * i)
-    × (endFrom s file offset (1500 - i) ≡ endFrom s₀ file offset₀ 1500)
-    × Printed out₀ out at here (eventLines i (answersFrom s file offset (1500 - i))) (eventLines 0 (answersFrom s₀ file offset₀ 1500))
+    × (here ≤ at + eventLineMost * i)
+    × (endFrom s file offset (mostEvents - i) ≡ endFrom s₀ file offset₀ mostEvents)
+    × Printed out₀ out at here (eventLines i (answersFrom s file offset (mostEvents - i))) (eventLines 0 (answersFrom s₀ file offset₀ mostEvents))
 
 abbrev μ-loop : tie.MeasureT-loop
-μ-loop out₀ at file first s₀ offset₀ here₀ i₀ out s offset here i = 1500 - i
+μ-loop out₀ at file first s₀ offset₀ here₀ i₀ out s offset here i = mostEvents - i
 
 -- src/replay.rt:32:5
 loop-holds : tie.Need-loop-holds Inv-loop μ-loop
@@ -46,8 +48,8 @@ returns : tie.Need-returns Inv-loop μ-loop
 returns c =
     let w = c .before .before .before .before .loop in
     let a = c .before .before .before .before .before .before .before .args in
-    let z = stops-here (w .s) (a .file .now) (w .offset) (1500 - w .i) _ (c .before .before .step-at .ensures .0) (not-true _ (c .if1 .taken)) in (
-      printed-all (w .inv .5) (line-none (w .s) (a .file .now) (w .offset) (1500 - w .i) (w .i) z),
+    let z = stops-here (w .s) (a .file .now) (w .offset) (mostEvents - w .i) _ (c .before .before .step-at .ensures .0) (not-true _ (c .if1 .taken)) in (
+      printed-all (w .inv .5) (line-none (w .s) (a .file .now) (w .offset) (mostEvents - w .i) (w .i) z),
       (sym (z .state) ∙ w .inv .4, w .inv .1, omega arith),
     )
 
@@ -72,14 +74,14 @@ loop-again c =
     let r = c .before .before .before .before .before .before .before .step-at in
     let p = c .before .before .before .put-event in
     let a = c .before .before .before .before .before .before .before .before .before .before .before .before .args in
-    let k : 1500 - w .i ≡ suc (1500 - (w .i + 1)) = omega arith in
-    let g = goes-on (w .s) (a .file .now) (w .offset) (1500 - (w .i + 1)) (r .result) (r .ensures .0) (not-false _ (c .before .before .before .before .before .if1 .left)) in (
+    let k : mostEvents - w .i ≡ suc (mostEvents - (w .i + 1)) = omega arith in
+    let g = goes-on (w .s) (a .file .now) (w .offset) (mostEvents - (w .i + 1)) (r .result) (r .ensures .0) (not-false _ (c .before .before .before .before .before .if1 .left)) in (
       omega arith,
       r .ensures .1,
       p .kept .0 ∙ w .inv .2,
       omega (arith, w .inv .3, p .ensures .1),
       sym (g .state) ∙ rw k at (w .inv .4),
-      printed-next _ _ (omega (arith, c .before .before .before .before .before .before .before .before .before .before .before .before .pre .1, w .inv .3)) (w .inv .5) (rw k (line-next (w .s) (a .file .now) (w .offset) (1500 - (w .i + 1)) (w .i) (r .result) g)) (p .ensures .0),
+      printed-next _ _ (omega (arith, c .before .before .before .before .before .before .before .before .before .before .before .before .pre .1, w .inv .3)) (w .inv .5) (rw k (line-next (w .s) (a .file .now) (w .offset) (mostEvents - (w .i + 1)) (w .i) (r .result) g)) (p .ensures .0),
     )
 
 -- src/replay.rt:23:1
@@ -91,7 +93,7 @@ returns-2 : tie.Need-returns-2 Inv-loop μ-loop
 returns-2 c =
     let w = c .before .loop in
     let a = c .before .before .before .before .args in
-    let k : 1500 - w .i ≡ 0 = omega arith in
+    let k : mostEvents - w .i ≡ 0 = omega arith in
     let z = none-left (w .s) (a .file .now) (w .offset) in (
       printed-all (w .inv .5) (rw k (line-none (w .s) (a .file .now) (w .offset) 0 (w .i) z)),
       (sym (z .state) ∙ rw k at (w .inv .4), w .inv .1, omega arith),

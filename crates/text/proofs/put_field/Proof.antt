@@ -1,12 +1,12 @@
--- `listing::lines::put_field` meets its contract: a number, and then a byte.
+-- `text::put_field` meets its contract: a number, and then a byte.
 use mathlib.Core.List.{[], _∷_}
 use native.Mathlib.Omega.{arith}
 use borrow.Author.Needs.{needs}
 use Rattle.text.specs.Decimal.{decimal}
 use Rattle.text.proofs.PlacedLaws.{room-first, room-second, both}
-use Rattle.listing.specs.Lines.{field}
-use Rattle.listing.proofs.lines.put_field.Statement.{statement}
-use Rattle.listing.proofs.lines.put_field.Tie as tie
+use Rattle.text.specs.Fields.{field}
+use Rattle.text.proofs.put_field.Statement.{statement}
+use Rattle.text.proofs.put_field.Tie as tie
 
 put-number-requires : tie.Need-put-number-requires
 unfolding field
@@ -18,9 +18,6 @@ put-byte-requires c κs =
     let s = c .before .before .before .before .before .before in
     omega (arith, room-second (s .args .out .now) (s .args .at) (decimal (s .args .n)) (s .args .end ∷ []) (s .pre) (c .before .before .before .put-number .ensures))
 
-same-length : tie.Need-same-length
-same-length c = search needs
-
 returns : tie.Need-returns
 unfolding field
 returns c =
@@ -30,8 +27,4 @@ returns c =
 pub put-field-spec : {M : Type 1} → statement M
 put-field-spec =
     tie.close
-    (tie.spec
-    put-number-requires
-    put-byte-requires
-    same-length
-    returns)
+    (tie.spec put-number-requires put-byte-requires (λ c. search needs) returns)

@@ -1,0 +1,27 @@
+-- Cited by private functions alone: the most bytes of a line of each kind, and of the lines of each part of a listing.
+use Prim.Native.Nat.{ℕ, _+_, _*_}
+use lib.ListN.{length}
+use Rattle.records.specs.Ranges.{mostThreads}
+use Rattle.trace_records.specs.Layout.{mostEvents}
+use Rattle.listing.specs.Lines.{threadWord, idleWord}
+
+-- fields of so many digits at most, each with the byte after it: a byte's number, and any number of 64 bits
+abbrev pub byteField : ℕ
+byteField = 3 + 1
+
+abbrev pub longField : ℕ
+longField = 20 + 1
+
+-- an event's number has at most 4 digits, and a thread's 2
+abbrev pub eventLineMost : ℕ
+eventLineMost = (4 + 1) + byteField + byteField + longField
+
+abbrev pub threadLineMost : ℕ
+threadLineMost = length threadWord + ((2 + 1) + longField + byteField + longField)
+
+abbrev pub eventLinesMost : ℕ
+eventLinesMost = eventLineMost * mostEvents
+
+-- the lines of the threads and the idle line
+abbrev pub closingMost : ℕ
+closingMost = threadLineMost * mostThreads + (length idleWord + longField)
