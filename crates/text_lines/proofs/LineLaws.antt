@@ -1,5 +1,5 @@
 -- Laws of lines: what one byte more at the front of a text changes.
-use Prim.Native.Nat.{ℕ, zero, suc, _+_, _≤_, _<_}
+use Prim.Native.Nat.{ℕ, suc, _+_, _≤_, _<_}
 use mathlib.Core.Bool.{Bool, true, false, cond}
 use mathlib.Core.List.{List, [], _∷_, _++_}
 use mathlib.Core.Path.{_≡_, refl, sym, ap, _∙_}
@@ -9,7 +9,7 @@ use lib.ListN.{length, take, drop, getD, length-take, drop-of-length-le}
 use lib.Seq.{drop-cons}
 use native.Mathlib.Numerals.{add-one}
 use borrow.Author.Tests.{eq-eqb, ne-eqb, eqb-true, eqb-false}
-use Rattle.records.proofs.TestLaws.{cond-elim, cond-true, cond-false, false-true}
+use Rattle.records.proofs.TestLaws.{cond-elim, false-true}
 use Rattle.text_lines.specs.Lines.{newline, before, linesOf, lineLength, equal, startsWith, differenceFrom, firstDifference, NoDifference}
 
 pub equal-refl : (s : List ℕ) → equal s s ≡ true
@@ -194,3 +194,76 @@ starts-as w s false f g = go (equal (take (length w) s) w) refl
     go : (b : Bool) → equal (take (length w) s) w ≡ b → false ≡ b
     go true e = false-true (g (equal-eq (take (length w) s) w e))
     go false e = refl
+
+-- the first line of a text and the lines after it
+pub line-some : (s : List ℕ) → 0 < length s → 0 < lineLength s
+unfolding lineLength
+line-some [] h = absurd (omega arith)
+line-some (b ∷ s) h = cond-elim (λ (n : ℕ). 0 < n) (eqb b newline) 1 (suc (lineLength s)) (λ e. omega arith) (λ e. omega arith)
+
+pub line-within : (s : List ℕ) → lineLength s ≤ length s
+unfolding lineLength
+line-within [] = omega arith
+line-within (b ∷ s) =
+    cond-elim (λ (n : ℕ). n ≤ suc (length s)) (eqb b newline) 1 (suc (lineLength s)) (λ e. omega arith) (λ e. omega (arith, line-within s))
+
+lines-after : (b : ℕ) (s : List ℕ) → (0 < length s → linesOf s ≡ take (lineLength s) s ∷ linesOf (drop (lineLength s) s))
+    → before b (linesOf s) ≡ (b ∷ take (lineLength s) s) ∷ linesOf (drop (lineLength s) s)
+unfolding linesOf lineLength
+lines-after b [] h = refl
+lines-after b (a ∷ s) h = ap (before b) (h (omega arith))
+
+pub lines-first : (s : List ℕ) → 0 < length s → linesOf s ≡ take (lineLength s) s ∷ linesOf (drop (lineLength s) s)
+unfolding linesOf lineLength
+lines-first [] h = absurd (omega arith)
+lines-first (b ∷ s) h = go (eqb b newline) refl (lines-after b s (lines-first s))
+  where
+    go : (x : Bool) → eqb b newline ≡ x → before b (linesOf s) ≡ (b ∷ take (lineLength s) s) ∷ linesOf (drop (lineLength s) s)
+        → linesOf (b ∷ s) ≡ take (lineLength (b ∷ s)) (b ∷ s) ∷ linesOf (drop (lineLength (b ∷ s)) (b ∷ s))
+    go true e f = rw e
+    go false e f = rw e f
+
+-- lines one after another are the text
+unfoldable pub joinedLines : List (List ℕ) → List ℕ
+joinedLines [] = []
+joinedLines (l ∷ ls) = l ++ joinedLines ls
+
+pub lines-joined : (s : List ℕ) → joinedLines (linesOf s) ≡ s
+unfolding joinedLines linesOf
+lines-joined [] = refl
+lines-joined (b ∷ s) = go (eqb b newline) (lines-joined s)
+  where
+    again : (ls : List (List ℕ)) → joinedLines (before b ls) ≡ b ∷ joinedLines ls
+    again [] = refl
+    again (l ∷ ls) = refl
+
+    go : (x : Bool) → joinedLines (linesOf s) ≡ s → joinedLines (cond x ((b ∷ []) ∷ linesOf s) (before b (linesOf s))) ≡ b ∷ s
+    go true e = ap (λ (t : List ℕ). b ∷ t) e
+    go false e = again (linesOf s) ∙ ap (λ (t : List ℕ). b ∷ t) e
+
+-- a line that ends in its only newline is the first line of a text that starts with it
+abbrev pub Ended : List ℕ → Type 0
+Ended [] = ⊥
+Ended (b ∷ []) = b ≡ newline
+Ended (b ∷ c ∷ s) = (b ≡ newline → ⊥) × Ended (c ∷ s)
+
+pub line-ended : (l s : List ℕ) → Ended l → linesOf (l ++ s) ≡ l ∷ linesOf s
+unfolding linesOf
+line-ended [] s p = absurd p
+line-ended (b ∷ []) s p = rw (eq-eqb b newline p)
+line-ended (b ∷ c ∷ l) s p = rw (ne-eqb b newline (p .0)) (ap (before b) (line-ended (c ∷ l) s (p .1)))
+
+-- no byte of a part of a line is a newline
+abbrev pub Inside : List ℕ → Type 0
+Inside [] = Unit {0}
+Inside (b ∷ s) = (b ≡ newline → ⊥) × Inside s
+
+pub inside-ended : (u l : List ℕ) → Inside u → Ended l → Ended (u ++ l)
+inside-ended [] l p q = q
+inside-ended (b ∷ []) [] p q = absurd q
+inside-ended (b ∷ []) (c ∷ l) p q = (p .0, q)
+inside-ended (b ∷ c ∷ u) l p q = (p .0, inside-ended (c ∷ u) l (p .1) q)
+
+pub inside-append : (u v : List ℕ) → Inside u → Inside v → Inside (u ++ v)
+inside-append [] v p q = q
+inside-append (b ∷ u) v p q = (p .0, inside-append u v (p .1) q)

@@ -4,19 +4,18 @@ use mathlib.Core.Bool.{Bool, true, false, cond}
 use mathlib.Core.List.{List, [], _∷_, _++_, append-assoc, append-nil}
 use mathlib.Core.Path.{_≡_, refl, sym, ap, ap₂, _∙_, subst}
 use native.Mathlib.Omega.{arith}
-use native.Mathlib.Nat.{le-trans}
 use native.Mathlib.Numerals.{add-one}
-use lib.Dec.{ltb, leb, eqb}
-use lib.ListN.{length, take, drop, getD, length-append, length-take, length-drop, drop-of-length-le, take-append-drop, List·getD-append, List·getD-eq-default, replicate, set, length-set}
-use lib.Seq.{drop-cons, take-suc, take-add, take-append-le, take-at, drop-at, getD-at, length-take-le, take-all, split-at, append-snoc, getD-take, drop-drop, take-suc-set, drop-set-lt}
-use borrow.Author.Tests.{lt-ltb, le-ltb, le-leb, lt-leb, leb-true, leb-false, eq-eqb, ne-eqb, eqb-true, eqb-false}
+use lib.Dec.{leb, eqb}
+use lib.ListN.{length, take, drop, getD, length-append, length-drop, drop-of-length-le, take-append-drop, List·getD-append, List·getD-eq-default, replicate, set, length-set}
+use lib.Seq.{drop-cons, take-suc, take-add, take-at, drop-at, getD-at, length-take-le, split-at, append-snoc, getD-take, drop-drop, take-suc-set, drop-set-lt}
+use borrow.Author.Tests.{le-leb, lt-leb, leb-true, leb-false, eq-eqb, ne-eqb, eqb-true, eqb-false}
 use Rattle.records.specs.Tests.{all}
-use Rattle.records.proofs.TestLaws.{All, all-true, true-all, all-false, cond-elim, cond-true, cond-false, false-true, all-one}
+use Rattle.records.proofs.TestLaws.{all-true, true-all, all-false, cond-elim, false-true, all-one}
 use Rattle.text.specs.Decimal.{decimal, readFrom}
 use Rattle.text.proofs.DecimalLaws.{small, large, read-more, reads-back, no-leading-zero, every}
 use Rattle.text_lines.specs.declared.Number.{Number}
 use Rattle.text_lines.specs.declared.Number.the-variants as number
-use Rattle.text_lines.specs.Numbers.{space, digit, digitCount, leadingValue, startsWithNumber, decimalAt, pick, endByte, noNumbers, numbersFound, endOf, numbersText, areNumbers, numbersOf, Within, Below, TextIsRead, OnlyTextIsRead}
+use Rattle.text_lines.specs.Numbers.{digit, digitCount, leadingValue, startsWithNumber, decimalAt, pick, endByte, noNumbers, numbersFound, endOf, numbersText, areNumbers, numbersOf, Within, Below, TextIsRead, OnlyTextIsRead}
 
 pub digit-range : (b : ℕ) → digit b ≡ true → (48 ≤ b) × (b ≤ 57)
 digit-range b e = let t = all-true (leb 48 b ∷ leb b 57 ∷ []) e in (leb-true 48 b (t .0), leb-true b 57 (t .1 .0))

@@ -1,5 +1,5 @@
 -- The text of numbers, one number after another.
-use Prim.Native.Nat.{ℕ, zero, suc, _+_, _*_, _^_, _≤_, _<_}
+use Prim.Native.Nat.{ℕ, zero, suc, _+_, _*_, _/_, _%_, _^_, _≤_, _<_}
 use mathlib.Core.List.{List, [], _∷_, _++_, append-assoc, append-nil}
 use mathlib.Core.Path.{_≡_, refl, sym, ap, _∙_, subst}
 use native.Mathlib.Omega.{arith}
@@ -7,10 +7,11 @@ use lib.Dec.{eqb}
 use lib.ListN.{length, drop, getD, length-append, drop-of-length-le}
 use lib.Seq.{drop-cons}
 use Rattle.text.specs.Decimal.{decimal}
-use Rattle.text.proofs.DecimalLaws.{digits-fit}
+use Rattle.text.proofs.DecimalLaws.{digits-fit, every}
 use Rattle.text.specs.Placed.{Put}
 use Rattle.text.proofs.PlacedLaws.{then, length-put}
 use Rattle.text_lines.specs.Numbers.{endByte, endOf, numbersText}
+use Rattle.text_lines.proofs.LineLaws.{Ended, Inside, inside-ended, inside-append}
 use Rattle.text_lines.proofs.NumberLaws.{end-is}
 
 -- the text of the first i numbers, as it stands in the text of all
@@ -61,3 +62,17 @@ numbers-short (n ∷ ns) h =
     let d : length (decimal n) ≤ 20 = digits-fit 20 n (omega arith) (omega (arith, h 0)) in
     let r = numbers-short ns (λ i. h (suc i)) in
     rw length-append (omega arith)
+
+-- the text of numbers is the end of a line
+decimal-inside : (n : ℕ) → Inside (decimal n)
+decimal-inside =
+    every (λ (n : ℕ) (ds : List ℕ). Inside ds)
+    (λ n l. (λ e. omega arith, tt))
+    (λ n l h. inside-append (decimal (n / 10)) ((48 + n % 10) ∷ []) h (λ e. omega arith, tt))
+
+pub numbers-ended : (n : ℕ) (ns : List ℕ) → Ended (numbersText (n ∷ ns))
+unfolding numbersText
+numbers-ended n [] = inside-ended (decimal n) (endOf [] ∷ []) (decimal-inside n) refl
+numbers-ended n (m ∷ ns) =
+    inside-ended (decimal n) (endOf (m ∷ ns) ∷ numbersText (m ∷ ns)) (decimal-inside n)
+    (inside-ended (endOf (m ∷ ns) ∷ []) (numbersText (m ∷ ns)) (λ e. omega arith, tt) (numbers-ended m ns))

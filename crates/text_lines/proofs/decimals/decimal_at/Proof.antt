@@ -1,5 +1,5 @@
 -- `text_lines::number_at` meets its contract: the bytes passed are the digits of a number that is right so far.
-use Prim.Native.Nat.{ℕ, suc, _+_, _*_, _-_, _/_, _≤_, _<_}
+use Prim.Native.Nat.{ℕ, _+_, _*_, _-_, _≤_, _<_}
 use mathlib.Core.Bool.{Bool, true, false}
 use mathlib.Core.List.{List}
 use mathlib.Core.Path.{_≡_, refl, sym, ap, _∙_, subst}
@@ -10,12 +10,10 @@ use lib.Seq.{getD-drop}
 use borrow.Author.Tests.{not-true, not-false, leb-true, leb-false}
 use lib.Dec.{leb}
 use Rattle.text_lines.specs.declared.Number.the-variants as number
-use Rattle.text_lines.specs.Numbers.{decimalAt, digit, digitCount, leadingValue, startsWithNumber}
+use Rattle.text_lines.specs.Numbers.{decimalAt, digit}
 use Rattle.text_lines.proofs.NumberLaws.{digit-range, found, not-found, Scanned, scan-none, scan-next, scan-no-digit, scan-other-end, scan-zero-leads, scan-too-large, scan-found, scan-over}
 use Rattle.text_lines.proofs.decimals.decimal_at.Statement.{statement}
 use Rattle.text_lines.proofs.decimals.decimal_at.Tie as tie
-use Rattle.text_lines.proofs.decimals.decimal_at.Reads as reads
-use Rattle.text_lines.proofs.decimals.decimal_at.Lts as lts
 
 abbrev Inv-loop : tie.InvT-loop
 Inv-loop text place most end value₀ i₀ value i = (place ≤ i) × Scanned most (drop place text) (i - place) value

@@ -1,7 +1,5 @@
 -- `text_lines::is_digit` meets its contract.
-use mathlib.Core.Bool.{true, false}
-use mathlib.Core.Path.{_≡_, refl, sym, _∙_}
-use lib.Dec.{leb}
+use mathlib.Core.Path.{sym}
 use borrow.Author.Tests.{lt-leb, le-leb}
 use Rattle.records.specs.Tests.{all}
 use Rattle.records.proofs.TestLaws.{all-one}

@@ -1,6 +1,6 @@
 -- `text_lines::numbers_at` meets its contract: the numbers found so far and those that the rest of the text would give are all.
 use Prim.Native.Nat.{ℕ, _+_, _-_, _≤_, _<_}
-use mathlib.Core.Path.{_≡_, refl, sym, ap, _∙_, subst}
+use mathlib.Core.Path.{_≡_, sym, ap, _∙_, subst}
 use native.Mathlib.Omega.{arith}
 use lib.Dec.{eqb}
 use lib.ListN.{length, getD, drop}
@@ -10,8 +10,6 @@ use Rattle.text_lines.specs.Numbers.{endByte, decimalAt}
 use Rattle.text_lines.proofs.NumberLaws.{Left, left-all, left-next, left-none, left-over, left-done, not-numbers, end-some}
 use Rattle.text_lines.proofs.decimals.numbers_at.Statement.{statement}
 use Rattle.text_lines.proofs.decimals.numbers_at.Tie as tie
-use Rattle.text_lines.proofs.decimals.numbers_at.Reads as reads
-use Rattle.text_lines.proofs.decimals.numbers_at.Lts as lts
 
 abbrev Inv-loop : tie.InvT-loop
 Inv-loop text place most values₀ at₀ i₀ values at i = (i ≤ length most) × Left most (drop place text) text values at i

@@ -1,10 +1,9 @@
 -- `text_lines::first_difference` meets its contract: from here on the texts differ where they differ as a whole.
 use Prim.Native.Nat.{ℕ, suc, _+_, _-_, _≤_, _<_}
-use mathlib.Core.Path.{_≡_, refl, sym, ap, _∙_}
+use mathlib.Core.Path.{_≡_, refl, sym, _∙_}
 use mathlib.Core.List.{List}
 use native.Mathlib.Omega.{arith}
-use lib.ListN.{length, getD, drop}
-use lib.Dec.{eqb}
+use lib.ListN.{length, getD}
 use borrow.Author.Tests.{eq-eqb, ne-eqb}
 use Rattle.text_lines.specs.Lines.{newline, firstDifference}
 use Rattle.text_lines.proofs.LineLaws.{differs, goes-on, stops-at, is-missing, is-surplus, is-same}

@@ -1,20 +1,11 @@
 -- `text_lines::starts_with` meets its contract.
-use Prim.Native.Nat.{ℕ, _-_, _≤_, _<_}
-use mathlib.Core.Bool.{Bool, true, false}
-use mathlib.Core.List.{List}
-use mathlib.Core.Path.{_≡_, refl, sym, ap, _∙_}
-use native.Mathlib.Omega.{arith}
-use lib.ListN.{length, take, length-take}
+use Prim.Native.Nat.{_-_}
+use mathlib.Core.Path.{sym}
 use lib.Seq.{length-take-le}
-use denote.Ref.{now}
 use borrow.Author.Needs.{needs}
-use Rattle.text_lines.specs.Lines.{startsWith}
 use Rattle.text_lines.proofs.LineLaws.{starts-as, too-short}
 use Rattle.text_lines.proofs.lines.starts_with.Statement.{statement}
 use Rattle.text_lines.proofs.lines.starts_with.Tie as tie
-use Rattle.text_lines.proofs.lines.starts_with.Reads as reads
-use Rattle.text_lines.proofs.lines.starts_with.Lts as lts
-use Rattle.check.proofs.same.Reads as same-reads
 
 returns : tie.Need-returns
 returns c = sym (too-short _ _ (c .if1 .taken))
