@@ -21,13 +21,14 @@ use Rattle.state.specs.declared.Thread.{Thread}
 use Rattle.state.specs.declared.State.{State}
 use Rattle.rows.specs.Rows.{withRow}
 use Rattle.state.specs.State.{isBlocked, threadAt, pendingAt, accountAt}
-use Rattle.rows.proofs.RowLaws.{row-length}
+use Rattle.rows.proofs.RowLaws.{row-length, row-first}
 use Rattle.ticks.specs.declared.Due.{Due}
-use Rattle.ticks.specs.Running.{level, head, ran, charge, limit, nextDue, next}
+use Rattle.ticks.proofs.EarlierLaws.{earlier-left}
+use Rattle.ticks.specs.Running.{level, head, ran, charge, limit, nextDue, NextAfter, next}
 use Rattle.moments.specs.Changes.{sentTo, withEffect}
 use Rattle.moments.specs.Moments.{quantumEnded, limits, passed}
-use Rattle.moments.proofs.DueLaws.{found, row-first, earlier-left}
-use Rattle.moments.proofs.InsertLaws.{afterLimit, after-limit-is, limit-entries}
+use Rattle.ticks.proofs.DueLaws.{found}
+use Rattle.moments.proofs.InsertLaws.{came, limit-entries}
 use Rattle.moments.proofs.ChargeLaws.{limit-later}
 use Rattle.moments.proofs.TurnLaws.{firstOf, first-later, Going, weight, turn-rest, turn-limit, due-some, not-past, charged-going, turn-due}
 use Rattle.moments.proofs.SeenLaws.{Seen, seen-head, seen-at, seen-small, seen-limit, seen-next, charge-fits, charge-place}
@@ -413,19 +414,20 @@ module _ (r : Turn) where
       -- ---- the next due after a limit
 
       abbrev Known : Due → ℕ → List ℕ → Type 0
-      Known y count dues = y ≡ afterLimit x j (getD (s .counts) j 0) count (getD dues (j * 8) 0) → y ≡ nextDue (set (s .counts) j count) dues (s .header .n)
+      Known y count dues = NextAfter x j count (getD dues (j * 8) 0) y → y ≡ nextDue (set (s .counts) j count) dues (s .header .n)
 
       limited-known : eqb m l ≡ true → (e : Effect) → e .first ≡ false → (y : Due) → Known y (pendingAfter e (pendingAt u j) .count) (withRow j (pendingAfter e (pendingAt u j) .dues) (s .dues))
       limited-known q e z y f =
           let w = limit-entries e (pendingAt u j) z (row-length j (s .dues) number-small (omega (tests, g .mid .sizes))) in
-          after-limit-is (s .counts) (s .dues) (s .header .n) j (omega (tests, g .mid .sizes)) number-small (omega (tests, g .mid .sizes)) (omega (tests, g .mid .sizes))
-          (pendingAfter e (pendingAt u j)) (w .0) (λ c. omega (arith, j-head q, here)) (λ c. let z = w .1 c in (z .0, z .1 ∙ row-first j (s .dues))) x y (v .first) f
+          f (set (s .counts) j (pendingAfter e (pendingAt u j) .count)) (withRow j (pendingAfter e (pendingAt u j) .dues) (s .dues)) (s .header .n)
+          (came (s .counts) (s .dues) (s .header .n) j (omega (tests, g .mid .sizes)) number-small (omega (tests, g .mid .sizes)) (omega (tests, g .mid .sizes))
+          (pendingAfter e (pendingAt u j)) (w .0) (λ c. omega (arith, j-head q, here)) (λ c. let z = w .1 c in (z .0, z .1 ∙ row-first j (s .dues))) x (v .first))
         where
           here : head s < s .header .n
           here = limited-present (λ i. s .now - 1) s (g .mid) (some b) (limited q) (later b) (not-rr q)
 
       pub limit-due : (a : Bool) → a ≡ eqb m l → (e : Effect) → e ≡ effectBy a → a ≡ true → (p : Put u j e) (y : Due)
-          → y ≡ afterLimit x j (getD (s .counts) j 0) (p .count) (getD (p .dues) (j * 8) 0) → y ≡ firstOf (putState u j e p)
+          → NextAfter x j (p .count) (getD (p .dues) (j * 8) 0) y → y ≡ firstOf (putState u j e p)
       limit-due a f e h q p y =
           subst₂ (Known y) (sym (p .count-is)) (sym (p .dues-is))
           (limited-known (sym f ∙ q) e

@@ -29,10 +29,12 @@ use Rattle.state.specs.State.{isBlocked, noThread, threadAt, pendingAt, assigne
 use Rattle.state.proofs.SoundLaws.{ThreadSound, SoundFrom, Sound}
 use Rattle.state.proofs.SoundLaws.ThreadSound.{absent, fifo, rr, sporadic}
 use Rattle.ticks.specs.declared.Due.{Due}
+use Rattle.ticks.proofs.EarlierLaws.{earlier-left, earlier-right, earlier-above}
+use Rattle.rows.proofs.RowLaws.{row-first}
 use Rattle.ticks.specs.Running.{level, head, idles, ran, charge, earlier, limit, nextDue, next}
 use Rattle.ticks.proofs.RunLaws.{by-zero, by-one, by-two}
 use Rattle.moments.proofs.ChangeLaws.{totals-set}
-use Rattle.moments.proofs.DueLaws.{Found, found, row-first, earlier-left, earlier-right, earlier-above}
+use Rattle.ticks.proofs.DueLaws.{Found, found}
 use Rattle.state.specs.Updates.{stateOf}
 
 -- the running thread

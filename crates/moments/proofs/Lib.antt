@@ -1,6 +1,5 @@
 -- Laws of the passing of time over the state.
 pub mod ChangeLaws
-pub mod DueLaws
 pub mod InsertLaws
 pub mod ChargeLaws
 pub mod LimitLaws

@@ -27,15 +27,15 @@ use Rattle.state.specs.declared.Thread.{Thread}
 use Rattle.state.specs.declared.State.{State}
 use Rattle.rows.specs.Rows.{rowAt}
 use Rattle.state.specs.State.{isBlocked, noThread, threadAt, pendingAt, accountAt}
-use Rattle.rows.proofs.RowLaws.{row-length}
+use Rattle.rows.proofs.RowLaws.{row-length, row-first}
 use Rattle.state.proofs.SoundLaws.{SoundFrom, Sound, state-in}
 use Rattle.ticks.specs.declared.Due.{Due}
 use Rattle.ticks.specs.Running.{level, head, idles, ran, charge, limit, nextDue, next}
-use Rattle.ticks.proofs.EarlierLaws.{earlier-other}
+use Rattle.ticks.proofs.EarlierLaws.{earlier-other, earlier-right}
 use Rattle.ticks.proofs.RunLaws.{charged-none}
 use Rattle.moments.specs.Moments.{quantumEnded, limitsOf, limits, firstReturned, replenish, replenishBelow, fire, clock, passed}
 use Rattle.moments.proofs.ChangeLaws.{pending-other}
-use Rattle.moments.proofs.DueLaws.{Found, found, row-first, earlier-right}
+use Rattle.ticks.proofs.DueLaws.{Found, found}
 use Rattle.moments.proofs.ChargeLaws.{due-after, wait-thread, next-due, dues-after, limit-later, charged-sound}
 use Rattle.moments.proofs.LimitLaws.{limits-none}
 use Rattle.moments.proofs.FireLaws.{bounds-same, first-counted-at, first-returned-sound, keeps-limits}

@@ -200,7 +200,7 @@ pub fn advance(s0: State, t: u64) -> State
         change_row(&mut s.amounts, j, first, amount, count, amount);
         if limited {
             let d = s.dues[at];
-            x = ticks::after_limit(x, j, count, pending, d);
+            x = ticks::after_limit(x, j, pending, d);
             continue;
         }
         x = ticks::next_due_from(&s.counts, &s.dues, n, m);

@@ -62,3 +62,9 @@ module _ (i : ℕ) (xs : List ℕ) (h : i < 32) (n : length xs ≡ 256) where
     write-end =
         append-assoc (take (i * 8) xs) (take 8 row) (drop (i * 8 + 8) xs)
         ∙ ap (λ (r : List ℕ). take (i * 8) xs ++ (r ++ drop (i * 8 + 8) xs)) (take-all 8 row (omega arith))
+
+-- the first due of thread i stands at the start of its row
+pub row-first : (i : ℕ) (xs : List ℕ) → getD (rowAt i xs) 0 0 ≡ getD xs (i * 8) 0
+row-first i xs =
+    let e : i * 8 + 0 ≡ i * 8 = omega arith in
+    getD-take 8 (drop (i * 8) xs) 0 0 (omega arith) ∙ getD-drop (i * 8) xs 0 0 ∙ ap (λ (k : ℕ). getD xs k 0) e

@@ -35,3 +35,18 @@ pub earlier-other : (a b : ℕ) → (a ≡ earlier a b → ⊥) → (earlier a b
 earlier-other zero b d = (refl, λ p. absurd (omega arith))
 earlier-other (suc a) zero d = absurd (d refl)
 earlier-other (suc a) (suc b) d = (omega (arith, d), λ p. omega (arith, d))
+
+pub earlier-left : (a b : ℕ) → 0 < a → (0 < earlier a b) × (earlier a b ≤ a)
+earlier-left zero b h = absurd (omega arith)
+earlier-left (suc a) zero h = omega arith
+earlier-left (suc a) (suc b) h = omega arith
+
+pub earlier-right : (a b : ℕ) → 0 < b → (0 < earlier a b) × (earlier a b ≤ b)
+earlier-right zero b h = omega arith
+earlier-right (suc a) zero h = absurd (omega arith)
+earlier-right (suc a) (suc b) h = omega arith
+
+pub earlier-above : (m a b : ℕ) → (0 < a → m < a) → (0 < b → m < b) → 0 < earlier a b → m < earlier a b
+earlier-above m zero b p q h = q h
+earlier-above m (suc a) zero p q h = p h
+earlier-above m (suc a) (suc b) p q h = omega (arith, p (omega arith), q (omega arith))

@@ -1,6 +1,7 @@
 -- Who runs, the next moment, and what so many ticks change.
 use Prim.Native.Nat.{ℕ, zero, suc, _+_, _-_, _*_, _≤_, _<_, min}
 use mathlib.Core.Bool.{Bool, cond}
+use mathlib.Core.Path.{_≡_}
 use mathlib.Core.List.{List}
 use lib.ListN.{getD, set}
 use lib.Dec.{ltb, eqb}
@@ -70,6 +71,23 @@ unfoldable pub nextDue : List ℕ → List ℕ → ℕ → Due
 nextDue counts dues zero = record { due = 0; thread = 32 }
 nextDue counts dues (suc n) =
     cond (eqb (getD counts n 0) 0) (nextDue counts dues n) (sooner n (getD dues (n * entries) 0) (nextDue counts dues n))
+
+-- thread k may have got an entry: it has `count` of them, the first due at d and no later than before; x was the next due, and the
+-- other threads are as they were
+pub record EntryCame (x : Due) (k count d : ℕ) (counts dues : List ℕ) (n : ℕ) : Type 0 where
+  pub small : n ≤ 32
+  pub counted : getD counts k 0 ≡ count
+  pub due : getD dues (k * entries) 0 ≡ d
+  pub present : 0 < count → k < n
+  pub countsBefore : List ℕ
+  pub duesBefore : List ℕ
+  pub first : x ≡ nextDue countsBefore duesBefore n
+  pub kept : 0 < getD countsBefore k 0 → (0 < count) × (d ≤ getD duesBefore (k * entries) 0)
+  pub others : (i : ℕ) → (i ≡ k → ⊥) → (getD counts i 0 ≡ getD countsBefore i 0) × (getD dues (i * entries) 0 ≡ getD duesBefore (i * entries) 0)
+
+-- then r is the next due
+abbrev pub NextAfter : Due → ℕ → ℕ → ℕ → Due → Type 0
+NextAfter x k count d r = (counts dues : List ℕ) (n : ℕ) → EntryCame x k count d counts dues n → r ≡ nextDue counts dues n
 
 -- of the threads below n that have a replenishment pending, none has its first due before `earliest`
 abbrev pub NoneBefore : List ℕ → List ℕ → ℕ → ℕ → Type 0

@@ -2,12 +2,12 @@
 ghost use mathlib.Core.Path.{_≡_};
 ghost use mathlib.Core.Bool.{false, cond};
 ghost use Prim.Native.Nat.{_+_, _<_, _≤_, _^_};
-ghost use lib.Dec.{eqb, ltb};
+ghost use lib.Dec.{eqb};
 ghost use Rattle.ready.specs.Lists.{headOf};
 ghost use Rattle.ready.specs.Word.{highestOf};
 ghost use Rattle.ready.specs.Rules.{Held};
 ghost use Rattle.passing.specs.Time.{dueBy};
-ghost use Rattle.ticks.specs.Running.{ran, earlier, limitOf, sooner, nextDue, NoneBefore};
+ghost use Rattle.ticks.specs.Running.{ran, earlier, limitOf, sooner, nextDue, NextAfter, NoneBefore};
 use state::Thread;
 
 // The first of the dues, and the lowest thread that has it; thread 32 for none.
@@ -62,20 +62,16 @@ fn sooner_of(best: Due, k: usize, count: u8, d: u64) -> Due
     best
 }
 
-// The next due after a limit of thread k, which had `before` pending and has `after`, the first of them due at d. A limit
-// adds at most one, behind those there: only a thread that had none gets another first due.
-pub fn after_limit(x: Due, k: usize, before: u8, after: u8, d: u64) -> Due
-    ensures { λ r. ⌜ r ≡ cond (eqb before 0) (cond (eqb after 0) x
-        (cond (eqb d (x .due)) (cond (ltb k (x .thread)) (record { due = d; thread = k }) x) (sooner k d x))) x ⌝ }
+// The next due after a limit of thread k, which has `count` entries then, the first due at d: that of the counts and dues
+// as they are, without a search.
+pub fn after_limit(x: Due, k: usize, count: u8, d: u64) -> Due
+    ensures { λ r. ⌜ NextAfter x k count d r ⌝ }
 {
-    if before != 0 {
-        return x;
-    }
-    if after == 0 {
+    if count == 0 {
         return x;
     }
     if d != x.due {
-        return sooner_of(x, k, after, d);
+        return sooner_of(x, k, count, d);
     }
     // at equal dues the lower thread comes first
     if k < x.thread {
