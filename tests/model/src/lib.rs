@@ -1,19 +1,22 @@
-//! An independent model of the executive's rules (01-scope, called 01 here),
-//! written from 01's words alone: it shares no shortcut with the code, and where
-//! 01 says a thing twice, so does the model. A sentence is cited as `01 State 7`,
-//! the seventh of its section. Speed is not its business.
+//! An independent model of the executive's rules (01-scope and the change requests,
+//! called 01 and 02 here), written from their words alone: it shares no shortcut
+//! with the code, and where they say a thing twice, so does the model. A sentence is
+//! cited as `01 State 7`, the seventh of its section, or as `02 E1 3`. Speed is not
+//! its business.
 //!
-//! One processor; SCHED_FIFO, SCHED_RR and SCHED_SPORADIC; the state, the
-//! events, the trace file's reader and writer, and the listing of a replay.
+//! One processor; SCHED_FIFO, SCHED_RR and SCHED_SPORADIC; the state, the events, the
+//! trace file's reader and writer, the listing of a replay, and traces as text.
 #![forbid(unsafe_code)]
 
 mod event;
 pub mod random;
 mod state;
+mod text;
 mod trace;
 
 pub use event::{event, next_moment, open, pass, running, Answer, Event};
 pub use state::{assigned, in_range, sound, upper, List, Parameters, State, Thread};
+pub use text::{from_text, to_text, Made};
 pub use trace::{listing, read, total_bytes, write, Trace};
 
 // 01, Numbers.
@@ -56,4 +59,6 @@ pub mod status {
     pub const HEADER: u8 = 11;
     pub const BUFFER: u8 = 12;
     pub const FILLER: u8 = 13;
+    /// 02 E1
+    pub const TEXT: u8 = 14;
 }
