@@ -5,15 +5,18 @@
 //! its business.
 //!
 //! One processor; SCHED_FIFO, SCHED_RR and SCHED_SPORADIC; the state, the events, the
-//! trace file's reader and writer, the listing of a replay, and traces as text.
+//! trace file's reader and writer, the listing of a replay and the check of another
+//! one, and traces as text.
 #![forbid(unsafe_code)]
 
+mod check;
 mod event;
 pub mod random;
 mod state;
 mod text;
 mod trace;
 
+pub use check::{verdict, Verdict};
 pub use event::{event, next_moment, open, pass, running, Answer, Event};
 pub use state::{assigned, in_range, sound, upper, List, Parameters, State, Thread};
 pub use text::{from_text, to_text, Made};
