@@ -42,15 +42,6 @@ impl Tally {
     }
 }
 
-/// By place and byte: an array of 256 has no default of its own.
-pub struct Bytes([[u64; 256]; 3]);
-
-impl Default for Bytes {
-    fn default() -> Bytes {
-        Bytes([[0; 256]; 3])
-    }
-}
-
 #[derive(Default)]
 pub struct Coverage {
     pub openings: Tally,
@@ -79,8 +70,6 @@ pub struct Coverage {
     moved: [[u64; STANDINGS]; 3],
     /// Runnable, blocked; from a policy to a policy.
     set: [[[u64; POLICIES]; POLICIES]; 2],
-    /// Past N, of a runnable thread, of a blocked one; the byte handed in as blocked.
-    bytes: Bytes,
     listed_n: [u64; THREADS],
     listed_pending: [u64; PENDING + 1],
     listed_moments: [u64; MOMENT_DIGITS],
@@ -88,6 +77,8 @@ pub struct Coverage {
     listed_ticks: [[u64; TICKS_DIGITS]; 3],
     listed_events: Tally,
     listed_refusals: Tally,
+    /// What sorts with rows of their own covered.
+    pub others: Vec<Group>,
 }
 
 // ------------------------------------------------------------------- events
@@ -249,20 +240,6 @@ fn ends(t: &Thread, ticks: u64) -> bool {
     }
 }
 
-impl Coverage {
-    /// A byte as `blocked` of a place, past N or of a thread that was blocked or not. It counts only
-    /// with the answer that it has to have.
-    pub fn blocked(&mut self, past: bool, was: u8, byte: u8, a: &Answer) {
-        let place = if past { 0 } else { 1 + was as usize };
-        let status = if byte == was {
-            status::ACCEPTED
-        } else {
-            status::UNSOUND
-        };
-        self.bytes.0[place][byte as usize] += (a.status == status) as u64;
-    }
-}
-
 // ----------------------------------------------------------------- listings
 
 impl Coverage {
@@ -311,7 +288,7 @@ pub struct Group {
     pub rows: Vec<Row>,
 }
 
-fn row<'a>(what: &'static str, counts: impl IntoIterator<Item = &'a u64>) -> Row {
+pub fn row<'a>(what: &'static str, counts: impl IntoIterator<Item = &'a u64>) -> Row {
     Row {
         what,
         counts: counts.into_iter().copied().collect(),
@@ -330,7 +307,7 @@ impl Row {
 }
 
 /// A row over the statuses that each tally can have.
-fn answers(what: &'static str, tallies: &[(&Tally, &[usize])]) -> Row {
+pub fn answers(what: &'static str, tallies: &[(&Tally, &[usize])]) -> Row {
     let counts = tallies
         .iter()
         .flat_map(|(t, of)| of.iter().map(|&k| &t.0[k]));
@@ -432,22 +409,13 @@ impl Coverage {
         ]
     }
 
-    pub fn groups(&self) -> Vec<Group> {
+    /// The situations of events and files.
+    pub fn group(&self) -> Group {
         let mut rows = self.event_rows();
         rows.extend(self.file_rows());
-        let bytes = row(
-            "each byte as blocked: past N, of a runnable thread, of a blocked one",
-            self.bytes.0.as_flattened(),
-        );
-        vec![
-            Group {
-                sorts: &["events", "files", "singles"],
-                rows,
-            },
-            Group {
-                sorts: &["blocked"],
-                rows: vec![bytes],
-            },
-        ]
+        Group {
+            sorts: &["events", "files", "singles"],
+            rows,
+        }
     }
 }

@@ -24,7 +24,7 @@ fn same_answer(
 }
 
 /// One event on both states; the model's answer.
-fn both(
+pub fn both(
     case: &Case,
     what: &str,
     s: &mut State,
@@ -198,7 +198,7 @@ fn state(r: &mut Random, aim: Aim) -> State {
     s
 }
 
-fn same_soundness(case: &Case, s: &State, t: &board::State) {
+pub fn same_soundness(case: &Case, s: &State, t: &board::State) {
     let (a, b) = (model::sound(s), board::sound(t));
     if a as u8 != b {
         let detail = format!("model {a} code {b} of {s:?}");
@@ -220,29 +220,4 @@ pub fn singles(count: u64, seed: u64, seen: &mut Coverage) {
         tally.add(a.status);
     }
     tally.print("single events");
-}
-
-// ----------------------------------------------------- every byte as blocked
-
-/// Sound states in which each place in turn holds each byte as `blocked`.
-pub fn blocked(count: u64, seed: u64, seen: &mut Coverage) {
-    for case in cases("blocked", seed).take(count as usize) {
-        let r = &mut case.random();
-        let given = r.sound_state();
-        let e = Event {
-            time: given.now,
-            ..Event::default()
-        };
-        for i in 0..THREADS {
-            for byte in 0..=u8::MAX {
-                let mut s = given;
-                s.threads[i].blocked = byte;
-                let mut t = board::State::from(&s);
-                same_soundness(&case, &s, &t);
-                let a = both(&case, "a byte as blocked", &mut s, &mut t, &e, seen);
-                let past = i >= given.n as usize;
-                seen.blocked(past, given.threads[i].blocked, byte, &a);
-            }
-        }
-    }
 }

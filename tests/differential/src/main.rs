@@ -2,6 +2,7 @@
 //! field. Each case has its own seed: a difference prints it with the command that repeats the
 //! case alone, and ends the run with status 1. A summary says what was covered.
 
+mod blocked;
 mod case;
 mod coverage;
 mod events;
@@ -18,27 +19,19 @@ struct Sort {
     run: fn(u64, u64, &mut Coverage),
 }
 
+const fn sort(option: &'static str, short: u64, run: fn(u64, u64, &mut Coverage)) -> Sort {
+    Sort { option, short, run }
+}
+
 const SORTS: &[Sort] = &[
-    Sort {
-        option: "events",
-        short: 500_000,
-        run: events::sequences,
-    },
-    Sort {
-        option: "files",
-        short: 20_000,
-        run: files::files,
-    },
-    Sort {
-        option: "singles",
-        short: 30_000,
-        run: events::singles,
-    },
-    Sort {
-        option: "blocked",
-        short: 6,
-        run: events::blocked,
-    },
+    // events after an opening, in sequences
+    sort("events", 500_000, events::sequences),
+    // trace files, damaged for the most part: read, copied and listed
+    sort("files", 20_000, files::files),
+    // single events on made-up states
+    sort("singles", 30_000, events::singles),
+    // each byte as `blocked` of each place of a state
+    sort("blocked", 6, blocked::blocked),
 ];
 
 fn main() {
@@ -61,7 +54,7 @@ fn main() {
 fn covered(counts: &[u64], seen: &Coverage) -> bool {
     println!("covered: how many situations, and how often the rarest of them");
     let mut complete = true;
-    for group in seen.groups() {
+    for group in [&seen.group()].into_iter().chain(&seen.others) {
         let needed = || {
             let sorts = SORTS.iter().zip(counts);
             sorts.filter(|(sort, _)| group.sorts.contains(&sort.option))
