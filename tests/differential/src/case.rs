@@ -61,12 +61,15 @@ pub fn buffer(r: &mut Random, length: usize) -> Vec<u8> {
 pub fn same_buffer<A: PartialEq + Debug>(
     case: &Case,
     what: &str,
-    file: &[u8],
+    input: impl Fn() -> String,
     (a, ours): (A, &[u8]),
     (b, theirs): (A, &[u8]),
 ) {
     if a != b || ours != theirs {
-        let detail = format!("model {a:?} {ours:?}\ncode {b:?} {theirs:?}\nof {file:?}");
+        let detail = format!(
+            "model {a:?} {ours:?}\ncode {b:?} {theirs:?}\nof {}",
+            input()
+        );
         case.differ(what, detail);
     }
 }

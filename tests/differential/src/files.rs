@@ -204,7 +204,8 @@ fn same_copy(case: &Case, file: &[u8], r: &mut Random, seen: &mut Coverage) {
     let mut theirs = ours.clone();
     let a = model_copy(file, &mut ours);
     let b = board::copy(file, &mut theirs);
-    same_buffer(case, "copying", file, (a, &ours), (b, &theirs));
+    let input = || format!("{file:?}");
+    same_buffer(case, "copying", input, (a, &ours), (b, &theirs));
     seen.copies.add(a.status);
 }
 
@@ -214,7 +215,8 @@ fn same_listing(case: &Case, file: &[u8], r: &mut Random, seen: &mut Coverage) {
     let mut theirs = ours.clone();
     let a = model_listing(&text, &mut ours);
     let b = board::listing(file, &mut theirs);
-    same_buffer(case, "listing", file, (a, &ours), (b, &theirs));
+    let input = || format!("{file:?}");
+    same_buffer(case, "listing", input, (a, &ours), (b, &theirs));
     seen.listings.add(a.status);
     if a.status == model::status::ACCEPTED {
         seen.listing(&text);

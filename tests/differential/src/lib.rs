@@ -2,7 +2,7 @@
 //! conversions between its state and the model's. Every field of one stands for a field of the
 //! other, so two states are equal exactly when their conversions are.
 
-use model::{PENDING, PRIORITIES, THREADS};
+use model::{MAX_EVENTS, PENDING, PRIORITIES, THREADS};
 
 #[repr(C)]
 #[derive(Clone, Copy, Debug, Default, PartialEq, Eq)]
@@ -90,6 +90,13 @@ pub struct Table {
     pub threads: [Parameters; THREADS],
 }
 
+/// The events of a file to be written: an array on its own is not passed by value in C.
+#[repr(C)]
+#[derive(Clone, Copy)]
+pub struct Events {
+    pub events: [Event; MAX_EVENTS],
+}
+
 #[repr(C)]
 #[derive(Clone, Copy, Debug, PartialEq, Eq)]
 pub struct Found {
@@ -123,6 +130,14 @@ mod exported {
         pub fn thawonlai_read(file: *const u8, length: usize) -> Found;
         pub fn thawonlai_copy(file: *const u8, length: usize, out: *mut u8, room: usize)
             -> Written;
+        pub fn thawonlai_write(
+            header: Header,
+            table: Table,
+            events: Events,
+            count: usize,
+            out: *mut u8,
+            room: usize,
+        ) -> Written;
         pub fn thawonlai_listing(
             file: *const u8,
             length: usize,
@@ -152,6 +167,17 @@ pub fn read(file: &[u8]) -> Found {
 
 pub fn copy(file: &[u8], out: &mut [u8]) -> Written {
     unsafe { exported::thawonlai_copy(file.as_ptr(), file.len(), out.as_mut_ptr(), out.len()) }
+}
+
+/// Writes the first `count` of the events.
+pub fn write(
+    header: Header,
+    table: Table,
+    events: Events,
+    count: usize,
+    out: &mut [u8],
+) -> Written {
+    unsafe { exported::thawonlai_write(header, table, events, count, out.as_mut_ptr(), out.len()) }
 }
 
 pub fn listing(file: &[u8], out: &mut [u8]) -> Listed {
@@ -197,6 +223,18 @@ pub fn table_of(table: &[model::Parameters; THREADS]) -> Table {
     Table {
         threads: table.map(Parameters::from),
     }
+}
+
+/// As many events as there are places for, and zeros in the others.
+pub fn events_of(events: &[model::Event]) -> Events {
+    let zeros = Event::from(model::Event::default());
+    let mut places = Events {
+        events: [zeros; MAX_EVENTS],
+    };
+    for (to, e) in places.events.iter_mut().zip(events) {
+        *to = (*e).into();
+    }
+    places
 }
 
 /// Zeros in every field.
