@@ -7,7 +7,7 @@ use std::cmp::Ordering;
 
 const KINDS: usize = 5;
 const POLICIES: usize = 3;
-const STATUSES: usize = 14;
+const STATUSES: usize = 15;
 /// Charges are told apart up to this number of ticks.
 const TICKS: usize = 10;
 /// FIFO, RR, sporadic at its upper priority and at low.

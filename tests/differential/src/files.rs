@@ -74,7 +74,7 @@ fn put_u32(file: &mut [u8], at: usize, x: u32) {
 }
 
 /// Changes a file: bits, bytes, its end, its header, its size, a filler byte.
-fn damage_file(r: &mut Random, file: &mut Vec<u8>) {
+pub fn damage_file(r: &mut Random, file: &mut Vec<u8>) {
     let length = file.len() as u64;
     if length < 32 {
         return;

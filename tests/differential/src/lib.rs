@@ -113,6 +113,16 @@ pub struct Written {
     pub total: usize,
 }
 
+/// A file made of a text, or a text of a file: the status, the line of a refusal with 14 or 0, and
+/// the bytes written.
+#[repr(C)]
+#[derive(Clone, Copy, Debug, PartialEq, Eq)]
+pub struct Made {
+    pub status: u8,
+    pub line: usize,
+    pub total: usize,
+}
+
 #[repr(C)]
 #[derive(Clone, Copy, Debug, PartialEq, Eq)]
 pub struct Listed {
@@ -138,6 +148,14 @@ mod exported {
             out: *mut u8,
             room: usize,
         ) -> Written;
+        pub fn thawonlai_from_text(
+            text: *const u8,
+            length: usize,
+            out: *mut u8,
+            room: usize,
+        ) -> Made;
+        pub fn thawonlai_to_text(file: *const u8, length: usize, out: *mut u8, room: usize)
+            -> Made;
         pub fn thawonlai_listing(
             file: *const u8,
             length: usize,
@@ -180,6 +198,14 @@ pub fn write(
     unsafe { exported::thawonlai_write(header, table, events, count, out.as_mut_ptr(), out.len()) }
 }
 
+pub fn from_text(text: &[u8], out: &mut [u8]) -> Made {
+    unsafe { exported::thawonlai_from_text(text.as_ptr(), text.len(), out.as_mut_ptr(), out.len()) }
+}
+
+pub fn to_text(file: &[u8], out: &mut [u8]) -> Made {
+    unsafe { exported::thawonlai_to_text(file.as_ptr(), file.len(), out.as_mut_ptr(), out.len()) }
+}
+
 pub fn listing(file: &[u8], out: &mut [u8]) -> Listed {
     unsafe { exported::thawonlai_listing(file.as_ptr(), file.len(), out.as_mut_ptr(), out.len()) }
 }
@@ -207,6 +233,16 @@ macro_rules! same_parameters {
 
 same_parameters!(model::Parameters, Parameters);
 same_parameters!(Parameters, model::Parameters);
+
+impl From<model::Made> for Made {
+    fn from(a: model::Made) -> Made {
+        Made {
+            status: a.status,
+            line: a.line,
+            total: a.total,
+        }
+    }
+}
 
 impl From<model::Event> for Event {
     fn from(e: model::Event) -> Event {

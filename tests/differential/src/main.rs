@@ -10,6 +10,8 @@ mod case;
 mod coverage;
 mod events;
 mod files;
+mod stored;
+mod texts;
 mod writes;
 
 use coverage::Coverage;
@@ -38,6 +40,8 @@ const SORTS: &[Sort] = &[
     sort("blocked", 6, blocked::blocked),
     // files written from any header, table and events
     // sort("writes", 10_000, writes::writes),
+    // texts made files and files written as text
+    // sort("texts", 30_000, texts::texts),
 ];
 
 fn main() {
