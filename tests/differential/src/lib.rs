@@ -123,6 +123,16 @@ pub struct Made {
     pub total: usize,
 }
 
+/// A verdict on a listing: 0 yes, 1 the line that differs, is missing or is surplus, 2 the trace's
+/// refusal. What doesn't apply is 0.
+#[repr(C)]
+#[derive(Clone, Copy, Debug, PartialEq, Eq)]
+pub struct Checked {
+    pub verdict: u8,
+    pub status: u8,
+    pub line: usize,
+}
+
 #[repr(C)]
 #[derive(Clone, Copy, Debug, PartialEq, Eq)]
 pub struct Listed {
@@ -156,6 +166,12 @@ mod exported {
         ) -> Made;
         pub fn thawonlai_to_text(file: *const u8, length: usize, out: *mut u8, room: usize)
             -> Made;
+        pub fn thawonlai_check(
+            file: *const u8,
+            length: usize,
+            theirs: *const u8,
+            their_length: usize,
+        ) -> Checked;
         pub fn thawonlai_listing(
             file: *const u8,
             length: usize,
@@ -206,6 +222,10 @@ pub fn to_text(file: &[u8], out: &mut [u8]) -> Made {
     unsafe { exported::thawonlai_to_text(file.as_ptr(), file.len(), out.as_mut_ptr(), out.len()) }
 }
 
+pub fn check(file: &[u8], theirs: &[u8]) -> Checked {
+    unsafe { exported::thawonlai_check(file.as_ptr(), file.len(), theirs.as_ptr(), theirs.len()) }
+}
+
 pub fn listing(file: &[u8], out: &mut [u8]) -> Listed {
     unsafe { exported::thawonlai_listing(file.as_ptr(), file.len(), out.as_mut_ptr(), out.len()) }
 }
@@ -240,6 +260,21 @@ impl From<model::Made> for Made {
             status: a.status,
             line: a.line,
             total: a.total,
+        }
+    }
+}
+
+impl From<model::Verdict> for Checked {
+    fn from(a: model::Verdict) -> Checked {
+        let (verdict, status, line) = match a {
+            model::Verdict::Yes => (0, 0, 0),
+            model::Verdict::Line(line) => (1, 0, line),
+            model::Verdict::Refused(status) => (2, status, 0),
+        };
+        Checked {
+            verdict,
+            status,
+            line,
         }
     }
 }

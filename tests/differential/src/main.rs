@@ -7,6 +7,7 @@
 
 mod blocked;
 mod case;
+mod checks;
 mod coverage;
 mod events;
 mod files;
@@ -42,6 +43,8 @@ const SORTS: &[Sort] = &[
     // sort("writes", 10_000, writes::writes),
     // texts made files and files written as text
     // sort("texts", 30_000, texts::texts),
+    // another kernel's listings
+    // sort("checks", 30_000, checks::checks),
 ];
 
 fn main() {
