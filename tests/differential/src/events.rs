@@ -8,7 +8,7 @@ use model::{Event, Parameters, State, THREADS};
 
 // --------------------------------------------------------- both on one input
 
-fn same_answer(
+pub fn same_answer(
     case: &Case,
     what: &str,
     input: impl Fn() -> String,
@@ -55,13 +55,8 @@ fn both_open(
 ) -> (model::Answer, State, board::State) {
     let (a, s) = model::open(start, n, table);
     let b = board::open(start, n, board::table_of(table));
-    let reply = board::Reply {
-        status: b.status,
-        running: b.running,
-        next: b.next,
-    };
     let input = || format!("start {start} n {n} {table:?}");
-    same_answer(case, "opening", input, (a, &s), (reply, &b.state));
+    same_answer(case, "opening", input, (a, &s), (b.reply(), &b.state));
     (a, s, b.state)
 }
 

@@ -84,6 +84,17 @@ pub struct Answer {
     pub state: State,
 }
 
+impl Answer {
+    /// The answer without its state.
+    pub fn reply(&self) -> Reply {
+        Reply {
+            status: self.status,
+            running: self.running,
+            next: self.next,
+        }
+    }
+}
+
 #[repr(C)]
 #[derive(Clone, Copy)]
 pub struct Table {
@@ -172,6 +183,7 @@ mod exported {
             theirs: *const u8,
             their_length: usize,
         ) -> Checked;
+        pub fn thawonlai_replay(file: *const u8, length: usize, count: usize) -> Answer;
         pub fn thawonlai_listing(
             file: *const u8,
             length: usize,
@@ -224,6 +236,11 @@ pub fn to_text(file: &[u8], out: &mut [u8]) -> Made {
 
 pub fn check(file: &[u8], theirs: &[u8]) -> Checked {
     unsafe { exported::thawonlai_check(file.as_ptr(), file.len(), theirs.as_ptr(), theirs.len()) }
+}
+
+/// The answer to the last of the file's first `count` events, with the state after it.
+pub fn replay(file: &[u8], count: usize) -> Answer {
+    unsafe { exported::thawonlai_replay(file.as_ptr(), file.len(), count) }
 }
 
 pub fn listing(file: &[u8], out: &mut [u8]) -> Listed {

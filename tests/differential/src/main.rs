@@ -11,6 +11,7 @@ mod checks;
 mod coverage;
 mod events;
 mod files;
+mod replays;
 mod stored;
 mod texts;
 mod writes;
@@ -45,6 +46,8 @@ const SORTS: &[Sort] = &[
     // sort("texts", 30_000, texts::texts),
     // another kernel's listings
     // sort("checks", 30_000, checks::checks),
+    // the step between a file's events, in every field of the state
+    // sort("replays", 2_500, replays::replays),
 ];
 
 fn main() {
