@@ -1,0 +1,2 @@
+-- The laws that the proofs of `listing_check` cite.
+pub mod VerdictLaws

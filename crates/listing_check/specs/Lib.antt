@@ -1,0 +1,2 @@
+-- What a reader of `listing_check` must believe.
+pub mod Verdict
