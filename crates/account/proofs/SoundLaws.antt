@@ -17,9 +17,9 @@ use Rattle.account.specs.declared.Account.{Account}
 use Rattle.account.specs.declared.Effect.{Effect}
 use Rattle.account.specs.declared.Place.{Place}
 use Rattle.account.specs.declared.Place.the-variants.{Stays, Low, LowThenUpper, Upper}
-use Rattle.account.specs.Account.{dues, amounts, isUpper, firstDue, freshAccount}
+use Rattle.account.specs.Account.{pendingDues, pendingAmounts, isUpper, firstDue, freshAccount}
 use Rattle.account.specs.Rules.{charged, dueOf, cleared, activated, withoutFirst, applied, pendingLater, backAtOnce, scheduled, limitEffect, blockEffect, wakeEffect, firstBack, firstIsDue, returnFirst}
-use Rattle.account.specs.Sound.{sum, positive, dueTests, dueEnd, numberTests, amountTests, placeTests, runsUpper, soundTests, soundAt}
+use Rattle.account.specs.Sound.{sum, positive, dueTests, dueEnd, numberTests, amountTests, slotTests, runsUpper, soundTests, soundAt}
 use Rattle.account.proofs.ChargeLaws.{charge-sum}
 use Rattle.account.proofs.EffectLaws.{schedule-elim, at-limit-elim, return-elim}
 
@@ -29,10 +29,10 @@ made s q = record { server = s; pending = q }
 -- dues are after lo, which is now in a sound account; `up`: runnable at the upper priority
 pub record AccountSound (start now lo : ℕ) (up : Bool) (p : Parameters) (a : Account) : Type 0 where
   pub numbers : All (numberTests start now up p (a .server) (a .pending .count))
-  pub sums : All (amountTests (p .budget) (a .server .capacity + a .server .used) (amounts (a .pending)))
-  pub times : All (dueTests lo (dueEnd now up p (a .server)) (dues (a .pending)))
-  pub duePlaces : All (placeTests (a .pending .count) (a .pending .dues))
-  pub amountPlaces : All (placeTests (a .pending .count) (a .pending .amounts))
+  pub sums : All (amountTests (p .budget) (a .server .capacity + a .server .used) (pendingAmounts (a .pending)))
+  pub times : All (dueTests lo (dueEnd now up p (a .server)) (pendingDues (a .pending)))
+  pub dueSlots : All (slotTests (a .pending .count) (a .pending .dues))
+  pub amountSlots : All (slotTests (a .pending .count) (a .pending .amounts))
 
 module _ (start now : ℕ) (blocked : Bool) (p : Parameters) (a : Account) where
   pub sound-out : soundAt start now blocked p a ≡ true → AccountSound start now now (runsUpper blocked p a) p a
@@ -41,10 +41,10 @@ module _ (start now : ℕ) (blocked : Bool) (p : Parameters) (a : Account) where
       let h = all-true (soundTests start now blocked p a) e in
       record {
         numbers = all-true (numberTests start now (runsUpper blocked p a) p (a .server) (a .pending .count)) (h .0);
-        sums = all-true (amountTests (p .budget) (a .server .capacity + a .server .used) (amounts (a .pending))) (h .1 .0);
-        times = all-true (dueTests now (dueEnd now (runsUpper blocked p a) p (a .server)) (dues (a .pending))) (h .1 .1 .0);
-        duePlaces = all-true (placeTests (a .pending .count) (a .pending .dues)) (h .1 .1 .1 .0);
-        amountPlaces = all-true (placeTests (a .pending .count) (a .pending .amounts)) (h .1 .1 .1 .1 .0);
+        sums = all-true (amountTests (p .budget) (a .server .capacity + a .server .used) (pendingAmounts (a .pending))) (h .1 .0);
+        times = all-true (dueTests now (dueEnd now (runsUpper blocked p a) p (a .server)) (pendingDues (a .pending))) (h .1 .1 .0);
+        dueSlots = all-true (slotTests (a .pending .count) (a .pending .dues)) (h .1 .1 .1 .0);
+        amountSlots = all-true (slotTests (a .pending .count) (a .pending .amounts)) (h .1 .1 .1 .1 .0);
       }
 
   pub sound-in : AccountSound start now now (runsUpper blocked p a) p a → soundAt start now blocked p a ≡ true
@@ -53,12 +53,12 @@ module _ (start now : ℕ) (blocked : Bool) (p : Parameters) (a : Account) where
       true-all (soundTests start now blocked p a) (
         true-all (numberTests start now (runsUpper blocked p a) p (a .server) (a .pending .count)) (h .numbers),
         (
-          true-all (amountTests (p .budget) (a .server .capacity + a .server .used) (amounts (a .pending))) (h .sums),
+          true-all (amountTests (p .budget) (a .server .capacity + a .server .used) (pendingAmounts (a .pending))) (h .sums),
           (
-            true-all (dueTests now (dueEnd now (runsUpper blocked p a) p (a .server)) (dues (a .pending))) (h .times),
+            true-all (dueTests now (dueEnd now (runsUpper blocked p a) p (a .server)) (pendingDues (a .pending))) (h .times),
             (
-              true-all (placeTests (a .pending .count) (a .pending .dues)) (h .duePlaces),
-              (true-all (placeTests (a .pending .count) (a .pending .amounts)) (h .amountPlaces), tt),
+              true-all (slotTests (a .pending .count) (a .pending .dues)) (h .dueSlots),
+              (true-all (slotTests (a .pending .count) (a .pending .amounts)) (h .amountSlots), tt),
             ),
           ),
         ),
@@ -105,9 +105,9 @@ module _ (start now lo : ℕ) (p : Parameters) (a : Account) where
         sums = h .sums;
         times =
             times-from lo (dueEnd now′ up p (a .server)) lo′ (a .pending .count) (a .pending .dues)
-            (times-wider lo (dueEnd now up p (a .server)) (dueEnd now′ up p (a .server)) (dues (a .pending)) (later up) (h .times)) q;
-        duePlaces = h .duePlaces;
-        amountPlaces = h .amountPlaces;
+            (times-wider lo (dueEnd now up p (a .server)) (dueEnd now′ up p (a .server)) (pendingDues (a .pending)) (later up) (h .times)) q;
+        dueSlots = h .dueSlots;
+        amountSlots = h .amountSlots;
       }
     where
       later : (up : Bool) → dueEnd now up p (a .server) ≤ dueEnd now′ up p (a .server)
@@ -123,8 +123,8 @@ module _ (start now lo : ℕ) (p : Parameters) (a : Account) where
         numbers = omega (tests, h .numbers);
         sums = rw (charge-sum k (a .server) l) (h .sums);
         times = times-from lo (a .server .activation + p .period) lo′ (a .pending .count) (a .pending .dues) (h .times) q;
-        duePlaces = h .duePlaces;
-        amountPlaces = h .amountPlaces;
+        dueSlots = h .dueSlots;
+        amountSlots = h .amountSlots;
       }
 
   -- nothing is charged: the same account of a thread that is blocked or low
@@ -133,9 +133,9 @@ module _ (start now lo : ℕ) (p : Parameters) (a : Account) where
       record {
         numbers = omega (tests, h .numbers);
         sums = h .sums;
-        times = times-wider lo (dueEnd now up p (a .server)) (now + p .period) (dues (a .pending)) (sooner up (h .numbers)) (h .times);
-        duePlaces = h .duePlaces;
-        amountPlaces = h .amountPlaces;
+        times = times-wider lo (dueEnd now up p (a .server)) (now + p .period) (pendingDues (a .pending)) (sooner up (h .numbers)) (h .times);
+        dueSlots = h .dueSlots;
+        amountSlots = h .amountSlots;
       }
     where
       sooner : (up : Bool) → All (numberTests start now up p (a .server) (a .pending .count)) → dueEnd now up p (a .server) ≤ now + p .period
@@ -144,7 +144,7 @@ module _ (start now lo : ℕ) (p : Parameters) (a : Account) where
 
   -- the activation time becomes now
   pub activate-sound : AccountSound start now lo false p a → start ≤ now → AccountSound start now lo true p (made (activated now (a .server)) (a .pending))
-  activate-sound h l = record { numbers = omega (tests, h .numbers); sums = h .sums; times = h .times; duePlaces = h .duePlaces; amountPlaces = h .amountPlaces }
+  activate-sound h l = record { numbers = omega (tests, h .numbers); sums = h .sums; times = h .times; dueSlots = h .dueSlots; amountSlots = h .amountSlots }
 
   -- ---- U is scheduled
 
@@ -167,8 +167,8 @@ module _ (start now lo : ℕ) (p : Parameters) (a : Account) where
       let ds = a .pending .dues in
       let xs = a .pending .amounts in
       let n = a .pending .count in
-      let qd : take (n + 1) (set ds n t) ≡ take n ds ++ t ∷ [] = rw add-one (take-suc-set ds n t (omega (tests, h .duePlaces .0))) in
-      let qx : take (n + 1) (set xs n x) ≡ take n xs ++ x ∷ [] = rw add-one (take-suc-set xs n x (omega (tests, h .amountPlaces .0))) in
+      let qd : take (n + 1) (set ds n t) ≡ take n ds ++ t ∷ [] = rw add-one (take-suc-set ds n t (omega (tests, h .dueSlots .0))) in
+      let qx : take (n + 1) (set xs n x) ≡ take n xs ++ x ∷ [] = rw add-one (take-suc-set xs n x (omega (tests, h .amountSlots .0))) in
       rw (later-is u)
       (record {
         numbers = omega (tests, h .numbers);
@@ -176,11 +176,11 @@ module _ (start now lo : ℕ) (p : Parameters) (a : Account) where
         times =
             rw qd
             (times-more lo (a .server .activation + p .period) (now + p .period) t (take n ds) (omega arith) (omega arith) (omega (tests, h .numbers)) (h .times));
-        duePlaces = kept n ds t (h .duePlaces);
-        amountPlaces = kept n xs x (h .amountPlaces);
+        dueSlots = kept n ds t (h .dueSlots);
+        amountSlots = kept n xs x (h .amountSlots);
       })
     where
-      kept : (n : ℕ) (xs : List ℕ) (x : ℕ) → All (placeTests n xs) → All (placeTests (n + 1) (set xs n x))
+      kept : (n : ℕ) (xs : List ℕ) (x : ℕ) → All (slotTests n xs) → All (slotTests (n + 1) (set xs n x))
       kept n xs x g = (
         ap (λ (k : ℕ). eqb k 8) (length-set xs n x) ∙ g .0,
         rw (drop-set-lt (n + 1) xs n x (omega arith) ∙ sym (drop-drop 1 n xs)) (zeros-drop 1 (drop n xs) (g .1)),
@@ -193,9 +193,9 @@ module _ (start now lo : ℕ) (p : Parameters) (a : Account) where
       record {
         numbers = omega (tests, h .numbers);
         sums = rw e (h .sums);
-        times = times-wider lo (a .server .activation + p .period) (now + p .period) (dues (a .pending)) (omega (tests, h .numbers)) (h .times);
-        duePlaces = h .duePlaces;
-        amountPlaces = h .amountPlaces;
+        times = times-wider lo (a .server .activation + p .period) (now + p .period) (pendingDues (a .pending)) (omega (tests, h .numbers)) (h .times);
+        dueSlots = h .dueSlots;
+        amountSlots = h .amountSlots;
       }
 
   -- whichever it is, the account is that of a thread that is blocked or low
@@ -244,8 +244,8 @@ module _ (start now : ℕ) (p : Parameters) where
       numbers = by up;
       sums = omega tests;
       times = tt;
-      duePlaces = (refl, zeros-replicate 8);
-      amountPlaces = (refl, zeros-replicate 8);
+      dueSlots = (refl, zeros-replicate 8);
+      amountSlots = (refl, zeros-replicate 8);
     },
     upper-yes p (freshAccount now p) b m,
   )
@@ -289,12 +289,12 @@ module _ (start now : ℕ) (p : Parameters) where
 
 -- ---- an entry comes back
 
--- the first of n + 1 places goes, and the others move up
+-- the first of n + 1 slots goes, and the others move up
 pop-part : (n : ℕ) (xs : List ℕ) → suc n ≤ length xs → take n (withoutFirst xs) ≡ drop 1 (take (suc n) xs)
 pop-part n [] l = absurd (omega arith)
 pop-part n (x ∷ xs) l = take-append-le n xs (0 ∷ []) (omega arith)
 
-pop-places : (n : ℕ) (xs : List ℕ) → suc n ≤ length xs → All (placeTests (suc n) xs) → All (placeTests n (withoutFirst xs))
+pop-places : (n : ℕ) (xs : List ℕ) → suc n ≤ length xs → All (slotTests (suc n) xs) → All (slotTests n (withoutFirst xs))
 pop-places n [] l g = absurd (omega arith)
 pop-places n (x ∷ xs) l g = (
   rw (length-append xs (0 ∷ [])) (omega (tests, g .0)),
@@ -326,16 +326,16 @@ module _ (start now lo : ℕ) (up : Bool) (p : Parameters) (a : Account) (h : Ac
       go zero z = absurd (omega arith)
       go (suc n) z =
           let m : a .pending .count - 1 ≡ n = omega arith in
-          let ls : suc n ≤ length (a .pending .amounts) = omega (tests, h .numbers, h .amountPlaces .0) in
-          let lt : suc n ≤ length (a .pending .dues) = omega (tests, h .numbers, h .duePlaces .0) in
+          let ls : suc n ≤ length (a .pending .amounts) = omega (tests, h .numbers, h .amountSlots .0) in
+          let lt : suc n ≤ length (a .pending .dues) = omega (tests, h .numbers, h .dueSlots .0) in
           let s = pop-sum n (a .pending .amounts) ls (rw z at (h .sums .1)) in
           let f = rw z at (h .sums .0) in
           record {
             numbers = omega (tests, h .numbers);
             sums = rw (m, pop-part n (a .pending .amounts) ls) (omega (tests, f, s .0), s .2);
             times = rw (m, pop-part n (a .pending .dues) lt) (pop-times lo (dueEnd now up p (a .server)) n (a .pending .dues) lt (rw z at (h .times)));
-            duePlaces = rw m (pop-places n (a .pending .dues) lt (rw z at (h .duePlaces)));
-            amountPlaces = rw m (pop-places n (a .pending .amounts) ls (rw z at (h .amountPlaces)));
+            dueSlots = rw m (pop-places n (a .pending .dues) lt (rw z at (h .dueSlots)));
+            amountSlots = rw m (pop-places n (a .pending .amounts) ls (rw z at (h .amountSlots)));
           }
 
   -- capacity and room: at least 1 came back, and one fewer is pending
@@ -345,7 +345,7 @@ module _ (start now lo : ℕ) (up : Bool) (p : Parameters) (a : Account) (h : Ac
       go : (n : ℕ) → a .pending .count ≡ n → isUpper p (applied first a) ≡ true
       go zero z = absurd (omega arith)
       go (suc n) z =
-          let ls : suc n ≤ length (a .pending .amounts) = omega (tests, h .numbers, h .amountPlaces .0) in
+          let ls : suc n ≤ length (a .pending .amounts) = omega (tests, h .numbers, h .amountSlots .0) in
           let s = pop-sum n (a .pending .amounts) ls (rw z at (h .sums .1)) in
           upper-yes p (applied first a) (omega (arith, s .1)) (omega (tests, h .numbers))
 
@@ -356,8 +356,8 @@ module _ (start now lo : ℕ) (up : Bool) (p : Parameters) (a : Account) (h : Ac
         numbers = h .numbers;
         sums = h .sums;
         times = go (a .pending .count) (a .pending .dues) e (h .times);
-        duePlaces = h .duePlaces;
-        amountPlaces = h .amountPlaces;
+        dueSlots = h .dueSlots;
+        amountSlots = h .amountSlots;
       }
     where
       go : (n : ℕ) (ds : List ℕ) → (ltb 0 n && leb (getD ds 0 0) now) ≡ false → All (dueTests lo (dueEnd now up p (a .server)) (take n ds))

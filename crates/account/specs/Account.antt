@@ -1,36 +1,37 @@
--- One sporadic account (State 2): capacity, charged time not yet scheduled, activation time, pending replenishments.
+-- One sporadic account (01 State 2): capacity, charged time not yet scheduled, activation time, pending replenishments.
 use Prim.Native.Nat.{ℕ}
 use mathlib.Core.Bool.{Bool, cond, _&&_}
 use mathlib.Core.List.{List}
 use lib.ListN.{take, getD, replicate}
 use lib.Dec.{ltb, eqb}
 use Rattle.records.specs.declared.Parameters.{Parameters}
+use Rattle.records.specs.Ranges.{mostReplenishments}
 use Rattle.account.specs.declared.Pending.{Pending}
 use Rattle.account.specs.declared.Account.{Account}
 
--- how many pending replenishments there are places for
+-- how many pending replenishments there are slots for: as many as max_repl allows
 abbrev pub entries : ℕ
-entries = 8
+entries = mostReplenishments
 
--- State 2: the due times and the amounts of the pending replenishments
-abbrev pub dues : Pending → List ℕ
-dues q = take (q .count) (q .dues)
+-- 01 State 2: the due times and the amounts of the pending replenishments
+abbrev pub pendingDues : Pending → List ℕ
+pendingDues q = take (q .count) (q .dues)
 
-abbrev pub amounts : Pending → List ℕ
-amounts q = take (q .count) (q .amounts)
+abbrev pub pendingAmounts : Pending → List ℕ
+pendingAmounts q = take (q .count) (q .amounts)
 
--- State 9: the upper priority takes capacity and fewer than max_repl pending; otherwise the thread is at low
+-- 01 State 9: the upper priority takes capacity and fewer than max_repl pending; otherwise the thread is at low
 abbrev pub atUpper : Parameters → ℕ → ℕ → Bool
 atUpper p capacity count = ltb 0 capacity && ltb count (p .«max_repl»)
 
 abbrev pub isUpper : Parameters → Account → Bool
 isUpper p a = atUpper p (a .server .capacity) (a .pending .count)
 
--- Passing 2: when the first of the pending replenishments is due, 0 for none
+-- 01 Passing 2: when the first of the pending replenishments is due, 0 for none
 abbrev pub firstDue : Pending → ℕ
 firstDue q = cond (eqb (q .count) 0) 0 (getD (q .dues) 0 0)
 
--- Events 6: a set gives the whole budget, nothing charged or pending, and activation now
+-- 01 Events 6: a set gives the whole budget, nothing charged or pending, and activation now
 abbrev pub freshAccount : ℕ → Parameters → Account
 freshAccount now p =
     record {

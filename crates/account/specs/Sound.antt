@@ -8,19 +8,19 @@ use Rattle.records.specs.declared.Parameters.{Parameters}
 use Rattle.records.specs.Tests.{all, zeros}
 use Rattle.account.specs.declared.Server.{Server}
 use Rattle.account.specs.declared.Account.{Account}
-use Rattle.account.specs.Account.{entries, dues, amounts, isUpper}
+use Rattle.account.specs.Account.{entries, pendingDues, pendingAmounts, isUpper}
 
--- State 10: the sum of the pending amounts
+-- 01 State 10: the sum of the pending amounts
 abbrev pub sum : List ℕ → ℕ
 sum [] = 0
 sum (x ∷ xs) = x + sum xs
 
--- State 12: amounts are at least 1
+-- 01 State 12: amounts are at least 1
 abbrev pub positive : List ℕ → List Bool
 positive [] = []
 positive (x ∷ xs) = leb 1 x ∷ positive xs
 
--- State 12 and 14: dues strictly rise, the first of them after lo, and each is before hi
+-- 01 State 12 and 14: dues strictly rise, the first of them after lo, and each is before hi
 abbrev pub dueTests : ℕ → ℕ → List ℕ → List Bool
 dueTests lo hi [] = []
 dueTests lo hi (d ∷ ds) = ltb lo d ∷ ltb d hi ∷ dueTests d hi ds
@@ -29,12 +29,12 @@ dueTests lo hi (d ∷ ds) = ltb lo d ∷ ltb d hi ∷ dueTests d hi ds
 abbrev pub runsUpper : Bool → Parameters → Account → Bool
 runsUpper blocked p a = cond blocked false (isUpper p a)
 
--- State 12 and 14: dues are before now + period; those of a runnable thread at its upper priority (`up`) before
+-- 01 State 12 and 14: dues are before now + period; those of a runnable thread at its upper priority (`up`) before
 -- activation + period, which is no later
 abbrev pub dueEnd : ℕ → Bool → Parameters → Server → ℕ
 dueEnd now up p s = cond up (s .activation) now + p .period
 
--- State 11 to 13: the count, U of a thread that is blocked or low, the activation time, and U against it
+-- 01 State 11 to 13: the count, U of a thread that is blocked or low, the activation time, and U against it
 abbrev pub numberTests : ℕ → ℕ → Bool → Parameters → Server → ℕ → List Bool
 numberTests start now up p s count =
     leb count (p .«max_repl»)
@@ -44,22 +44,22 @@ numberTests start now up p s count =
     ∷ leb (s .activation + s .used) now
     ∷ []
 
--- State 10 and 12: the sum of capacity, U and the pending amounts is the budget
+-- 01 State 10 and 12: the sum of capacity, U and the pending amounts is the budget
 abbrev pub amountTests : ℕ → ℕ → List ℕ → List Bool
-amountTests budget held xs = eqb (held + sum xs) budget ∷ positive xs
+amountTests budget own xs = eqb (own + sum xs) budget ∷ positive xs
 
--- State 17: places past the count hold 0; an array is as long as its type says
-abbrev pub placeTests : ℕ → List ℕ → List Bool
-placeTests count xs = eqb (length xs) entries ∷ zeros (drop count xs)
+-- 01 State 17: slots past the count hold 0; an array is as long as its type says
+abbrev pub slotTests : ℕ → List ℕ → List Bool
+slotTests count xs = eqb (length xs) entries ∷ zeros (drop count xs)
 
--- State 9 to 14 and 17: what a sound account meets at a time
+-- 01 State 9 to 14 and 17: what a sound account meets at a time
 abbrev pub soundTests : ℕ → ℕ → Bool → Parameters → Account → List Bool
 soundTests start now blocked p a =
     all (numberTests start now (runsUpper blocked p a) p (a .server) (a .pending .count))
-    ∷ all (amountTests (p .budget) (a .server .capacity + a .server .used) (amounts (a .pending)))
-    ∷ all (dueTests now (dueEnd now (runsUpper blocked p a) p (a .server)) (dues (a .pending)))
-    ∷ all (placeTests (a .pending .count) (a .pending .dues))
-    ∷ all (placeTests (a .pending .count) (a .pending .amounts))
+    ∷ all (amountTests (p .budget) (a .server .capacity + a .server .used) (pendingAmounts (a .pending)))
+    ∷ all (dueTests now (dueEnd now (runsUpper blocked p a) p (a .server)) (pendingDues (a .pending)))
+    ∷ all (slotTests (a .pending .count) (a .pending .dues))
+    ∷ all (slotTests (a .pending .count) (a .pending .amounts))
     ∷ []
 
 unfoldable pub soundAt : ℕ → ℕ → Bool → Parameters → Account → Bool

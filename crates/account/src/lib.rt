@@ -1,6 +1,6 @@
 // One sporadic account: the rules of SCHED_SPORADIC over its parameters and itself, by value. No thread, no list.
 ghost use mathlib.Core.Path.{_≡_};
-ghost use mathlib.Core.Bool.{cond, not, _&&_};
+ghost use mathlib.Core.Bool.{not, _&&_};
 ghost use Prim.Native.Nat.{_+_, _<_, _≤_, _^_, min};
 ghost use lib.Dec.{leb};
 ghost use Rattle.account.specs.Account.{atUpper, firstDue, freshAccount};

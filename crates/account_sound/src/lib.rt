@@ -28,10 +28,10 @@ pub fn sound(p: Parameters, a: Account, blocked: bool, start: u64, now: u64) -> 
     if !tests::dues_hold(dues, n, now, base, p.period) {
         return false;
     }
-    if !tests::places_hold(dues, n) {
+    if !tests::slots_hold(dues, n) {
         return false;
     }
-    tests::places_hold(amounts, n)
+    tests::slots_hold(amounts, n)
 }
 
 // A runnable thread at its upper priority.

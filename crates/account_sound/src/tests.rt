@@ -4,10 +4,14 @@ ghost use Prim.Native.Nat.{_+_, _≤_};
 ghost use mathlib.Core.Bool.{cond};
 ghost use lib.ListN.{take};
 ghost use Rattle.records.specs.Tests.{all};
-ghost use Rattle.account.specs.Sound.{numberTests, amountTests, dueTests, placeTests};
+ghost use Rattle.account.specs.Account.{entries};
+ghost use Rattle.account.specs.Sound.{numberTests, amountTests, dueTests, slotTests};
 use account::ENTRIES;
 use account::Server;
 use records::Parameters;
+
+// The most entries that there are slots for.
+const MOST: u8 = ENTRIES as u8;
 
 // One of two numbers.
 pub(super) fn either(first: bool, a: u64, b: u64) -> u64
@@ -33,7 +37,7 @@ pub(super) fn numbers_hold(
     if p.max_repl < count {
         return false;
     }
-    if 8 < count {
+    if MOST < count {
         return false;
     }
     if either(up, 0, s.used) != 0 {
@@ -48,7 +52,7 @@ pub(super) fn numbers_hold(
     s.used <= now - s.activation
 }
 
-// The n amounts are at least 1, and with what is held they make the budget.
+// The n amounts are at least 1, and with capacity and U they make the budget.
 pub(super) fn amounts_hold(
     budget: u64,
     capacity: u64,
@@ -56,7 +60,7 @@ pub(super) fn amounts_hold(
     amounts: [u64; ENTRIES],
     n: usize,
 ) -> bool
-    requires { ⌜ n ≤ 8 ⌝ }
+    requires { ⌜ n ≤ entries ⌝ }
     ensures { λ r. ⌜ r ≡ all (amountTests budget (capacity + used) (take n amounts)) ⌝ }
 {
     if budget < capacity {
@@ -83,7 +87,7 @@ pub(super) fn amounts_hold(
 
 // The n dues strictly rise, the first after `after`, and are less than `period` after `base`.
 pub(super) fn dues_hold(dues: [u64; ENTRIES], n: usize, after: u64, base: u64, period: u64) -> bool
-    requires { ⌜ (n ≤ 8) × (base ≤ after) ⌝ }
+    requires { ⌜ (n ≤ entries) × (base ≤ after) ⌝ }
     ensures { λ r. ⌜ r ≡ all (dueTests after (base + period) (take n dues)) ⌝ }
 {
     let mut last = after;
@@ -102,9 +106,9 @@ pub(super) fn dues_hold(dues: [u64; ENTRIES], n: usize, after: u64, base: u64, p
     true
 }
 
-// The places from n on hold 0.
-pub(super) fn places_hold(xs: [u64; ENTRIES], n: usize) -> bool
-    ensures { λ r. ⌜ r ≡ all (placeTests n xs) ⌝ }
+// The slots from n on hold 0.
+pub(super) fn slots_hold(xs: [u64; ENTRIES], n: usize) -> bool
+    ensures { λ r. ⌜ r ≡ all (slotTests n xs) ⌝ }
 {
     let mut i = n;
     while i < ENTRIES {

@@ -9,7 +9,7 @@ use Rattle.ready.specs.Word.{wordOf, occupancy}
 use Rattle.ready.specs.Sound.{soundRow, soundRows, soundLists}
 use Rattle.passing.specs.Time.{run}
 use Rattle.passing.specs.Sequence.{firstOf, status, answer}
-use Rattle.rows.specs.Rows.{withRow}
+use Rattle.rows.specs.Rows.{withSlots}
 use Rattle.state.specs.Sound.{presentTest, absentTest, soundState}
 use Rattle.ticks.specs.Running.{nextDue}
 use Rattle.moments.specs.Moments.{limits, replenish, replenishBelow, fire}
@@ -20,5 +20,5 @@ use Rattle.events.specs.Table.{listOf, TableHolds}
 
 -- the replay's seven events and the five rows
 pub table-holds : TableHolds
-unfolding lib.Count.leadingZeros all below fifoInRange rrInRange sporadicInRange inRange allZero scheduled limitEffect returnEffect soundAt withThreads without occurs wordOf occupancy soundRow soundRows soundLists run firstOf status answer withRow presentTest absentTest soundState nextDue limits replenish replenishBelow fire effect fieldStatusOf stateStatusOf enteredBelow openStatus opening listOf
+unfolding lib.Count.leadingZeros all below fifoInRange rrInRange sporadicInRange inRange allZero scheduled limitEffect returnEffect soundAt withThreads without occurs wordOf occupancy soundRow soundRows soundLists run firstOf status answer withSlots presentTest absentTest soundState nextDue limits replenish replenishBelow fire effect fieldStatusOf stateStatusOf enteredBelow openStatus opening listOf
 table-holds = refl

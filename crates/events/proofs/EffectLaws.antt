@@ -46,7 +46,7 @@ module _ (start now : ℕ) (b : Bool) (t : Thread) (q : Pending) (d : length (q 
       (runsUpper (isBlocked t) (t .parameters) (record { server = t .server; pending = q })) v (omega arith) (omega (tests, h))
       (λ u. upper-room (t .parameters) (record { server = t .server; pending = q }) (sym (cond-false (isBlocked t) false _ w) ∙ u) .1) in
       subst⁻¹ (Fits start now b (withBlocked 1 t)) (by-two (t .parameters .policy) _ _ _ z)
-      (record { dues = omega (tests, k .duePlaces .0); amounts = omega (tests, k .amountPlaces .0); sound = sporadic n z (omega (tests, h)) l k })
+      (record { dues = omega (tests, k .dueSlots .0); amounts = omega (tests, k .amountSlots .0); sound = sporadic n z (omega (tests, h)) l k })
 
   -- a full quantum changes an RR thread alone
   pub quantum-fits : ThreadSound start now now b t q → ThreadSound start now now b (fullQuantum t) q
@@ -80,8 +80,8 @@ module _ (start now : ℕ) (b : Bool) (t : Thread) (q : Pending) (d : length (q 
           → Fits start now b (withBlocked 0 (fullQuantum t)) (waking now true (t .parameters) (record { server = t .server; pending = q }) .account)
       sent u x k =
           record {
-            dues = omega (tests, k .sound .duePlaces .0);
-            amounts = omega (tests, k .sound .amountPlaces .0);
+            dues = omega (tests, k .sound .dueSlots .0);
+            amounts = omega (tests, k .sound .amountSlots .0);
             sound = sporadic n z (omega (tests, h)) (by-two (t .parameters .policy) _ _ _ z ∙ l)
                 (subst⁻¹ (λ (y : Bool). AccountSound start now now y (t .parameters) (waking now true (t .parameters) (record { server = t .server; pending = q }) .account)) (k .upper) (k .sound));
           }

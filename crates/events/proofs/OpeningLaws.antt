@@ -22,7 +22,7 @@ use Rattle.passing.specs.Sequence.{Answer, accepted}
 use Rattle.passing.proofs.SequenceLaws.{firstOf-zero}
 use Rattle.state.specs.declared.Thread.{Thread}
 use Rattle.state.specs.declared.State.{State}
-use Rattle.rows.specs.Rows.{rowAt}
+use Rattle.rows.specs.Rows.{slotsAt}
 use Rattle.state.specs.State.{noThread, threadAt, pendingAt, assigned, placeOf, place}
 use Rattle.state.specs.Sound.{totals, soundState}
 use Rattle.rows.proofs.RowLaws.{row-length}
@@ -148,9 +148,9 @@ zeros-take zero xs h = tt
 zeros-take (suc n) [] h = tt
 zeros-take (suc n) (x ∷ xs) h = (h .0, zeros-take n xs (h .1))
 
-empty-row : (i : ℕ) → i < 32 → rowAt i (replicate 256 0) ≡ replicate 8 0
+empty-row : (i : ℕ) → i < 32 → slotsAt i (replicate 256 0) ≡ replicate 8 0
 empty-row i l =
-    zeros-eq (rowAt i (replicate 256 0)) (zeros-take 8 (drop (i * 8) (replicate 256 0)) (zeros-drop (i * 8) (replicate 256 0) (zeros-replicate 256)))
+    zeros-eq (slotsAt i (replicate 256 0)) (zeros-take 8 (drop (i * 8) (replicate 256 0)) (zeros-drop (i * 8) (replicate 256 0) (zeros-replicate 256)))
     ∙ ap (λ (n : ℕ). replicate n 0) (row-length i (replicate 256 0) l refl)
 
 module _ (n start : ℕ) (top : start ≤ 1000000000000000) where

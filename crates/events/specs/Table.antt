@@ -7,7 +7,7 @@ use lib.ListN.{length, drop, getD}
 use lib.Dec.{eqb}
 use Rattle.records.specs.declared.Parameters.{Parameters}
 use Rattle.records.specs.declared.Event.{Event}
-use Rattle.account.specs.Account.{dues, amounts}
+use Rattle.account.specs.Account.{pendingDues, pendingAmounts}
 use Rattle.ready.specs.Lists.{threads, occurs}
 use Rattle.passing.specs.Sequence.{Answer, answers}
 use Rattle.state.specs.declared.State.{State}
@@ -47,8 +47,8 @@ seen s i =
       priority = assigned (threadAt s i) (getD (s .counts) i 0);
       list = listOf 32 i (s .lists);
       activation = threadAt s i .server .activation;
-      dues = dues (pendingAt s i);
-      amounts = amounts (pendingAt s i);
+      dues = pendingDues (pendingAt s i);
+      amounts = pendingAmounts (pendingAt s i);
       total = threadAt s i .total;
     }
 

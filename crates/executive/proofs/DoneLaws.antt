@@ -18,7 +18,7 @@ use Rattle.ready.specs.Rules.{Leavable, Joinable, Movable}
 use Rattle.ready.proofs.SoundLaws.{leavable, joinable, movable}
 use Rattle.state.specs.declared.Thread.{Thread}
 use Rattle.state.specs.declared.State.{State}
-use Rattle.rows.specs.Rows.{withRow}
+use Rattle.rows.specs.Rows.{withSlots}
 use Rattle.state.specs.State.{isBlocked, threadAt, pendingAt, accountAt, assigned, place}
 use Rattle.state.specs.Sound.{soundState}
 use Rattle.state.proofs.SoundLaws.{Sound, range-out, state-out}
@@ -224,7 +224,7 @@ module _ (s : State) (e : Event) (n j : ℕ) (v : Concerns s e n j) where
 
       -- the state as the code leaves it
       pub change-is : (u : Thread) → u ≡ withServer (c .account .server) (c .thread)
-          → (d m k : List ℕ) (w : ℕ) → d ≡ withRow j (c .account .pending .dues) (s .dues) → m ≡ withRow j (c .account .pending .amounts) (s .amounts)
+          → (d m k : List ℕ) (w : ℕ) → d ≡ withSlots j (c .account .pending .dues) (s .dues) → m ≡ withSlots j (c .account .pending .amounts) (s .amounts)
           → k ≡ shifted n (c .from) (c .to) (s .lists) → w ≡ occupancy (shifted n (c .from) (c .to) (s .lists))
           → (stateOf (s .header) (s .now) (s .idle) w (lists.set (s .threads) j u) (lists.set (s .counts) j (c .account .pending .count)) d m k)
           ≡ effect s e

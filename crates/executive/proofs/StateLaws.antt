@@ -8,7 +8,7 @@ use Rattle.account.specs.declared.Account.{Account}
 use Rattle.ready.specs.Word.{occupancy}
 use Rattle.state.specs.declared.Thread.{Thread}
 use Rattle.state.specs.declared.State.{State}
-use Rattle.rows.specs.Rows.{withRow}
+use Rattle.rows.specs.Rows.{withSlots}
 use Rattle.state.specs.State.{threadAt}
 use Rattle.ticks.specs.Running.{level, head}
 use Rattle.events.specs.Effects.{block, yield, wake, set, byKind, effect}
@@ -17,7 +17,7 @@ use Rattle.state.specs.Updates.{withLists, withAccount, withServer, stateOf}
 module _ (s : State) where
   -- another thread and account at place i
   pub put-is : (i : ℕ) (t : Thread) (a : Account) (u : Thread) (d m : List ℕ) → u ≡ withServer (a .server) t
-      → d ≡ withRow i (a .pending .dues) (s .dues) → m ≡ withRow i (a .pending .amounts) (s .amounts)
+      → d ≡ withSlots i (a .pending .dues) (s .dues) → m ≡ withSlots i (a .pending .amounts) (s .amounts)
       → (stateOf (s .header) (s .now) (s .idle) (s .word) (lists.set (s .threads) i u) (lists.set (s .counts) i (a .pending .count)) d m (s .lists))
       ≡ withAccount i t a s
   put-is i t a u d m e f g =

@@ -19,7 +19,7 @@ use Rattle.passing.specs.Time.{dueBy}
 use Rattle.passing.proofs.TimeLaws.{due-true, due-false}
 use Rattle.state.specs.declared.Thread.{Thread}
 use Rattle.state.specs.declared.State.{State}
-use Rattle.rows.specs.Rows.{withRow}
+use Rattle.rows.specs.Rows.{withSlots}
 use Rattle.state.specs.State.{isBlocked, threadAt, pendingAt, accountAt}
 use Rattle.rows.proofs.RowLaws.{row-length, row-first}
 use Rattle.ticks.specs.declared.Due.{Due}
@@ -53,8 +53,8 @@ pub record Put (u : State) (j : ℕ) (e : Effect) : Type 0 where
   pub word-is : word ≡ occupancy (sentTo (e .place) number (threadAt u j .parameters) (u .lists))
   pub thread-is : thread ≡ withServer (e .server) (threadAt u j)
   pub count-is : count ≡ pendingAfter e (pendingAt u j) .count
-  pub dues-is : dues ≡ withRow j (pendingAfter e (pendingAt u j) .dues) (u .dues)
-  pub amounts-is : amounts ≡ withRow j (pendingAfter e (pendingAt u j) .amounts) (u .amounts)
+  pub dues-is : dues ≡ withSlots j (pendingAfter e (pendingAt u j) .dues) (u .dues)
+  pub amounts-is : amounts ≡ withSlots j (pendingAfter e (pendingAt u j) .amounts) (u .amounts)
   pub lists-is : lists ≡ sentTo (e .place) number (threadAt u j .parameters) (u .lists)
 
 abbrev pub putState : (u : State) (j : ℕ) (e : Effect) → Put u j e → State
@@ -416,10 +416,10 @@ module _ (r : Turn) where
       abbrev Known : Due → ℕ → List ℕ → Type 0
       Known y count dues = NextAfter x j count (getD dues (j * 8) 0) y → y ≡ nextDue (set (s .counts) j count) dues (s .header .n)
 
-      limited-known : eqb m l ≡ true → (e : Effect) → e .first ≡ false → (y : Due) → Known y (pendingAfter e (pendingAt u j) .count) (withRow j (pendingAfter e (pendingAt u j) .dues) (s .dues))
+      limited-known : eqb m l ≡ true → (e : Effect) → e .first ≡ false → (y : Due) → Known y (pendingAfter e (pendingAt u j) .count) (withSlots j (pendingAfter e (pendingAt u j) .dues) (s .dues))
       limited-known q e z y f =
           let w = limit-entries e (pendingAt u j) z (row-length j (s .dues) number-small (omega (tests, g .mid .sizes))) in
-          f (set (s .counts) j (pendingAfter e (pendingAt u j) .count)) (withRow j (pendingAfter e (pendingAt u j) .dues) (s .dues)) (s .header .n)
+          f (set (s .counts) j (pendingAfter e (pendingAt u j) .count)) (withSlots j (pendingAfter e (pendingAt u j) .dues) (s .dues)) (s .header .n)
           (came (s .counts) (s .dues) (s .header .n) j (omega (tests, g .mid .sizes)) number-small (omega (tests, g .mid .sizes)) (omega (tests, g .mid .sizes))
           (pendingAfter e (pendingAt u j)) (w .0) (λ c. omega (arith, j-head q, here)) (λ c. let z = w .1 c in (z .0, z .1 ∙ row-first j (s .dues))) x (v .first))
         where

@@ -17,7 +17,7 @@ use Rattle.ready.proofs.Soundness.{ListsSound}
 use Rattle.ready.proofs.SoundLaws.{withPlace, sound-same}
 use Rattle.state.specs.declared.Thread.{Thread}
 use Rattle.state.specs.declared.State.{State}
-use Rattle.rows.specs.Rows.{rowAt, withRow}
+use Rattle.rows.specs.Rows.{slotsAt, withSlots}
 use Rattle.state.specs.State.{noThread, threadAt, pendingAt, placeOf, place}
 use Rattle.state.specs.Sound.{totals}
 use Rattle.rows.proofs.RowLaws.{row-same}
@@ -27,19 +27,19 @@ use Rattle.state.specs.Updates.{withThread, withLists, withAccount, withServer,
 -- ---- rows
 
 module _ (i : ℕ) (row xs : List ℕ) (l : i < 32) (n : length xs ≡ 256) (m : length row ≡ 8) where
-  pub row-length : length (withRow i row xs) ≡ 256
-  unfolding withRow
+  pub row-length : length (withSlots i row xs) ≡ 256
+  unfolding withSlots
   row-length = replaced-length (i * 8) 8 row xs m (omega arith) ∙ n
 
-  pub row-at : rowAt i (withRow i row xs) ≡ row
-  unfolding withRow
+  pub row-at : slotsAt i (withSlots i row xs) ≡ row
+  unfolding withSlots
   row-at = replaced-at (i * 8) 8 row xs m (omega arith)
 
-  pub row-other : (j : ℕ) → (j ≡ i → ⊥) → rowAt j (withRow i row xs) ≡ rowAt j xs
-  unfolding withRow
+  pub row-other : (j : ℕ) → (j ≡ i → ⊥) → slotsAt j (withSlots i row xs) ≡ slotsAt j xs
+  unfolding withSlots
   row-other j d = go (ltb j i) refl
     where
-      go : (b : Bool) → ltb j i ≡ b → rowAt j (withRow i row xs) ≡ rowAt j xs
+      go : (b : Bool) → ltb j i ≡ b → slotsAt j (withSlots i row xs) ≡ slotsAt j xs
       go true e = replaced-before (i * 8) 8 row xs m (omega arith) (j * 8) 8 (omega (tests, e))
       go false e = replaced-after (i * 8) 8 row xs m (omega arith) (j * 8) 8 (omega (tests, e, d))
 

@@ -24,7 +24,7 @@ use Rattle.ready.specs.Word.{highestOf}
 use Rattle.ready.proofs.SoundLaws.{sound-same, highest-sound}
 use Rattle.state.specs.declared.Thread.{Thread}
 use Rattle.state.specs.declared.State.{State}
-use Rattle.rows.specs.Rows.{rowAt}
+use Rattle.rows.specs.Rows.{slotsAt}
 use Rattle.state.specs.State.{isBlocked, noThread, threadAt, pendingAt, assigned, placeOf, place}
 use Rattle.state.proofs.SoundLaws.{ThreadSound, SoundFrom, Sound}
 use Rattle.state.proofs.SoundLaws.ThreadSound.{absent, fifo, rr, sporadic}
@@ -201,7 +201,7 @@ next-charge lo k s h q =
 -- ---- dues
 
 first-after : (start now lo : ℕ) (up : Bool) (p : Parameters) (a : Account) → AccountSound start now lo up p a → 0 < a .pending .count → lo < getD (a .pending .dues) 0 0
-first-after start now lo up p a h c = go (a .pending .count) (a .pending .dues) c (omega (tests, h .duePlaces .0)) (h .times)
+first-after start now lo up p a h c = go (a .pending .count) (a .pending .dues) c (omega (tests, h .dueSlots .0)) (h .times)
   where
     go : (n : ℕ) (ds : List ℕ) → 0 < n → length ds ≡ 8 → All (dueTests lo (dueEnd now up p (a .server)) (take n ds)) → lo < getD ds 0 0
     go zero ds c l t = absurd (omega arith)
@@ -224,7 +224,7 @@ first-bound q m f h = go (ℕ-discrete (q .count) 0)
 
 -- the next moment is at or before each due
 pub next-due : (lo : ℕ → ℕ) (s : State) → SoundFrom lo s → (i : ℕ) → i < 32 → 0 < getD (s .counts) i 0
-    → (0 < nextDue (s .counts) (s .dues) (s .header .n) .due) × (nextDue (s .counts) (s .dues) (s .header .n) .due ≤ getD (rowAt i (s .dues)) 0 0)
+    → (0 < nextDue (s .counts) (s .dues) (s .header .n) .due) × (nextDue (s .counts) (s .dues) (s .header .n) .due ≤ getD (slotsAt i (s .dues)) 0 0)
 next-due lo s h i l c = go (ltb i (s .header .n)) refl (h .each i l) (ℕ-discrete (x .thread) 32)
   where
     x : Due
@@ -234,7 +234,7 @@ next-due lo s h i l c = go (ltb i (s .header .n)) refl (h .each i l) (ℕ-discre
     f = found (s .counts) (s .dues) (s .header .n) (omega (tests, h .sizes))
 
     go : (b : Bool) → ltb i (s .header .n) ≡ b → ThreadSound (s .header .start) (s .now) (lo i) (ltb i (s .header .n)) (threadAt s i) (pendingAt s i) → Dec (x .thread ≡ 32)
-        → (0 < x .due) × (x .due ≤ getD (rowAt i (s .dues)) 0 0)
+        → (0 < x .due) × (x .due ≤ getD (slotsAt i (s .dues)) 0 0)
     go false e (absent n t q) d = absurd (omega (arith, ap (λ (q : Pending). q .count) q))
     go false e (fifo n z g a v q) d = absurd (omega (arith, ap (λ (q : Pending). q .count) q))
     go false e (rr n z g a v q) d = absurd (omega (arith, ap (λ (q : Pending). q .count) q))
@@ -248,7 +248,7 @@ next-due lo s h i l c = go (ltb i (s .header .n)) refl (h .each i l) (ℕ-discre
 
 -- each due is after m, where the next moment is
 pub dues-after : (lo : ℕ → ℕ) (s : State) (m : ℕ) → SoundFrom lo s → (0 < next s → m < next s) → (i : ℕ) → i < 32 → 0 < getD (s .counts) i 0
-    → m < getD (rowAt i (s .dues)) 0 0
+    → m < getD (slotsAt i (s .dues)) 0 0
 dues-after lo s m h q i l c =
     let r = next-due lo s h i l c in
     let y = earlier-right (limit s) (nextDue (s .counts) (s .dues) (s .header .n) .due) (r .0) in
@@ -361,7 +361,7 @@ assigned-ran start now lo p k b t q x m = go x
         at false e = same (ran-low p k t z e)
 
 -- a sound state after k ticks: dues are after lo′, and nothing was used up
-pub charged-sound : (lo lo′ : ℕ → ℕ) (k : ℕ) (s : State) → SoundFrom lo s → ((i : ℕ) → i < 32 → 0 < getD (s .counts) i 0 → lo′ i < getD (rowAt i (s .dues)) 0 0)
+pub charged-sound : (lo lo′ : ℕ → ℕ) (k : ℕ) (s : State) → SoundFrom lo s → ((i : ℕ) → i < 32 → 0 < getD (s .counts) i 0 → lo′ i < getD (slotsAt i (s .dues)) 0 0)
     → (idles s ≡ false → Within (level s) k (threadAt s (head s))) → s .now + k ≤ 1000000000000000 → SoundFrom lo′ (charge k s)
 charged-sound lo lo′ k s h d w l = go (idles s) refl
   where

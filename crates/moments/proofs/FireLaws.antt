@@ -88,7 +88,7 @@ module _ (lo : ℕ → ℕ) (s : State) (h : SoundFrom lo s) (i : ℕ) (l : i < 
         → SoundFrom (withBound lo i x) (withEffect i e s)
     put x e y b p q u m =
         subst⁻¹ (λ (y : Place). SoundFrom (withBound lo i x) (withLists (sentTo y i (threadAt s i .parameters) (s .lists)) (withAccount i (threadAt s i) (after e) s))) p
-        (changed lo s h i l (threadAt s i) (after e) x (omega (tests, q .duePlaces .0)) (omega (tests, q .amountPlaces .0))
+        (changed lo s h i l (threadAt s i) (after e) x (omega (tests, q .dueSlots .0)) (omega (tests, q .amountSlots .0))
         (sporadic n z g a (subst⁻¹ (λ (c : Bool). AccountSound (s .header .start) (s .now) x c (threadAt s i .parameters) (after e)) u q))
         refl (sentTo y i (threadAt s i .parameters) (s .lists)) m)
 

@@ -10,7 +10,7 @@ use Rattle.account.specs.declared.Pending.{Pending}
 use Rattle.account.specs.declared.Effect.{Effect}
 use Rattle.account.specs.Rules.{pendingAfter}
 use Rattle.account.proofs.EntryLaws.{added-elim}
-use Rattle.rows.specs.Rows.{withRow}
+use Rattle.rows.specs.Rows.{withSlots}
 use Rattle.rows.proofs.RowLaws.{row-first}
 use Rattle.ticks.specs.declared.Due.{Due}
 use Rattle.ticks.specs.Running.{nextDue, EntryCame}
@@ -24,7 +24,7 @@ module _ (counts dues : List ℕ) (n k : ℕ) (m : n ≤ 32) (l : k < 32) (lc : 
   counts′ = set counts k (q .count)
 
   abbrev dues′ : List ℕ
-  dues′ = withRow k (q .dues) dues
+  dues′ = withSlots k (q .dues) dues
 
   pub came : (x : Due) → x ≡ nextDue counts dues n → EntryCame x k (q .count) (getD dues′ (k * 8) 0) counts′ dues′ n
   came x e =

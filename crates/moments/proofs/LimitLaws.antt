@@ -27,7 +27,7 @@ use Rattle.ready.proofs.Soundness.{ListsSound}
 use Rattle.ready.proofs.SoundLaws.{withPlace, sound-same, move-sound}
 use Rattle.state.specs.declared.Thread.{Thread}
 use Rattle.state.specs.declared.State.{State}
-use Rattle.rows.specs.Rows.{rowAt}
+use Rattle.rows.specs.Rows.{slotsAt}
 use Rattle.state.specs.State.{isBlocked, noServer, noThread, threadAt, pendingAt, accountAt, assigned, placeOf, place}
 use Rattle.rows.proofs.RowLaws.{row-length}
 use Rattle.state.proofs.SoundLaws.{noPending, ThreadSound, SoundFrom, sizeTests, RrTests, SporadicTests}
@@ -100,7 +100,7 @@ charge-runs k s e =
 
 -- what is left of soundness when the running thread has used up what it runs on: everything but that thread
 module _ (lo lo′ : ℕ → ℕ) (k : ℕ) (s : State) (h : SoundFrom lo s) (e : idles s ≡ false)
-    (d : (i : ℕ) → i < 32 → 0 < getD (s .counts) i 0 → lo′ i < getD (rowAt i (s .dues)) 0 0) (top : s .now + k ≤ 1000000000000000) where
+    (d : (i : ℕ) → i < 32 → 0 < getD (s .counts) i 0 → lo′ i < getD (slotsAt i (s .dues)) 0 0) (top : s .now + k ≤ 1000000000000000) where
   run : Runs s
   run = runs lo s h e
 
@@ -250,7 +250,7 @@ module _ (lo lo′ : ℕ → ℕ) (k : ℕ) (s : State) (h : SoundFrom lo s) (e 
     unfolding i p ended sent
     sent-sound b x e q m =
         subst⁻¹ (λ (y : Place). SoundFrom (withBound lo′ i (lo′ i)) (withLists (sentTo y i p (s .lists)) (withAccount i ended (applied e spent) (ranState k s)))) (q .place)
-        (again ended (applied e spent) (lo′ i) (omega (tests, q .sound .duePlaces .0)) (omega (tests, q .sound .amountPlaces .0))
+        (again ended (applied e spent) (lo′ i) (omega (tests, q .sound .dueSlots .0)) (omega (tests, q .sound .amountSlots .0))
         (sporadic n z g (by-two (ended .parameters .policy) _ _ _ z ∙ l)
         (subst⁻¹ (λ (y : Bool). AccountSound (s .header .start) (s .now + k) (lo′ i) y p (applied e spent)) (cond-false (isBlocked (threadAt s (head s))) false _ (run .awake) ∙ q .upper) (q .sound)))
         refl (sentTo x i p (s .lists))

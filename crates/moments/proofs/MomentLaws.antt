@@ -13,7 +13,7 @@ use Rattle.passing.specs.Time.{moment}
 use Rattle.passing.proofs.TimeLaws.{Laws}
 use Rattle.state.specs.declared.Thread.{Thread}
 use Rattle.state.specs.declared.State.{State}
-use Rattle.rows.specs.Rows.{rowAt}
+use Rattle.rows.specs.Rows.{slotsAt}
 use Rattle.state.specs.State.{threadAt, pendingAt}
 use Rattle.state.specs.Sound.{soundState}
 use Rattle.state.proofs.SoundLaws.{ThreadSound, SoundFrom, Sound, state-in, state-out}
@@ -68,7 +68,7 @@ module _ (s : State) (h : Sound s) (p : 0 < next s) (top : next s ≤ 1000000000
   unfolding k
   at-next = omega (arith, later s h p)
 
-  dues : (i : ℕ) → i < 32 → 0 < getD (s .counts) i 0 → before s i < getD (rowAt i (s .dues)) 0 0
+  dues : (i : ℕ) → i < 32 → 0 < getD (s .counts) i 0 → before s i < getD (slotsAt i (s .dues)) 0 0
   unfolding before
   dues = dues-after (λ i. s .now) s (next s - 1) h (λ q. omega arith)
 

@@ -34,7 +34,7 @@ use Rattle.ticks.specs.Running.{level, head, idles, ran, charge, limitOf, limit
 use Rattle.ticks.proofs.RunLaws.{by-zero, by-one, by-two, by-more, limit-rr, limit-upper, limit-lower}
 use Rattle.moments.specs.Changes.{withEffect}
 use Rattle.moments.specs.Moments.{quantumEnded, limitsOf, limits}
-use Rattle.rows.specs.Rows.{rowAt}
+use Rattle.rows.specs.Rows.{slotsAt}
 use Rattle.moments.proofs.ChargeLaws.{Runs, runs, upper-at, ran-upper}
 
 -- ---- where the account's rules send a thread
@@ -231,7 +231,7 @@ module _ (lo : ℕ → ℕ) (s : State) (a : SoundFrom lo s) (j : ℕ) (l : j < 
   pub due-sendable : Sendable (s .word) j (threadAt s j .parameters) (s .lists)
       (returnFirst (s .now) (isBlocked (threadAt s j)) (threadAt s j .parameters) (accountAt s j) .place)
   due-sendable =
-      return-elim (s .now) (threadAt s j .parameters) (threadAt s j .server) (isBlocked (threadAt s j)) (getD (s .counts) j 0) (getD (rowAt j (s .amounts)) 0 0)
+      return-elim (s .now) (threadAt s j .parameters) (threadAt s j .server) (isBlocked (threadAt s j)) (getD (s .counts) j 0) (getD (slotsAt j (s .amounts)) 0 0)
       (λ (e : Effect). Sendable (s .word) j (threadAt s j .parameters) (s .lists) (e .place)) (λ z. stays) (λ n u. stays)
       (λ n w u. record {
         stays = λ q. a .lists .agrees;

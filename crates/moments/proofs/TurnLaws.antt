@@ -25,7 +25,7 @@ use Rattle.passing.specs.Time.{dueBy}
 use Rattle.passing.proofs.TimeLaws.{due-false, due-yes, advance-rest, advance-due}
 use Rattle.state.specs.declared.Thread.{Thread}
 use Rattle.state.specs.declared.State.{State}
-use Rattle.rows.specs.Rows.{rowAt}
+use Rattle.rows.specs.Rows.{slotsAt}
 use Rattle.state.specs.State.{isBlocked, noThread, threadAt, pendingAt, accountAt}
 use Rattle.rows.proofs.RowLaws.{row-length, row-first}
 use Rattle.state.proofs.SoundLaws.{SoundFrom, Sound, state-in}
@@ -51,7 +51,7 @@ abbrev pub Mid : State → Type 0
 Mid s = SoundFrom (λ i. s .now - 1) s
 
 -- other lower bounds of the dues
-pub bounds : (lo lo′ : ℕ → ℕ) (s : State) → SoundFrom lo s → ((i : ℕ) → i < 32 → 0 < getD (s .counts) i 0 → lo′ i < getD (rowAt i (s .dues)) 0 0) → SoundFrom lo′ s
+pub bounds : (lo lo′ : ℕ → ℕ) (s : State) → SoundFrom lo s → ((i : ℕ) → i < 32 → 0 < getD (s .counts) i 0 → lo′ i < getD (slotsAt i (s .dues)) 0 0) → SoundFrom lo′ s
 bounds lo lo′ s h d =
     record {
       sizes = h .sizes;
@@ -60,7 +60,7 @@ bounds lo lo′ s h d =
       timed = h .timed;
     }
 
-pub first-later : (lo : ℕ → ℕ) (s : State) → SoundFrom lo s → (i : ℕ) → i < 32 → 0 < getD (s .counts) i 0 → lo i < getD (rowAt i (s .dues)) 0 0
+pub first-later : (lo : ℕ → ℕ) (s : State) → SoundFrom lo s → (i : ℕ) → i < 32 → 0 < getD (s .counts) i 0 → lo i < getD (slotsAt i (s .dues)) 0 0
 first-later lo s h i l c = due-after (s .header .start) (s .now) (lo i) (ltb i (s .header .n)) (threadAt s i) (pendingAt s i) (h .each i l) c
 
 pub sound-mid : (s : State) → Sound s → Mid s
@@ -149,7 +149,7 @@ module _ (s : State) (h : Mid s) (d : firstOf s .thread ≡ 32 → ⊥) (e : fir
   first-due =
       let r = f .some d in
       rw (lt-ltb 0 (getD (s .counts) (firstOf s .thread) 0) (r .1))
-      (le-leb (getD (rowAt (firstOf s .thread) (s .dues)) 0 0) (s .now) (omega (arith, r .2, row-first (firstOf s .thread) (s .dues))))
+      (le-leb (getD (slotsAt (firstOf s .thread) (s .dues)) 0 0) (s .now) (omega (arith, r .2, row-first (firstOf s .thread) (s .dues))))
 
   -- the first that is due has come back
   abbrev back : Effect
@@ -197,10 +197,10 @@ module _ (s : State) (h : Mid s) (d : firstOf s .thread ≡ 32 → ⊥) (e : fir
           (eight (back .due) (s .dues) (omega (tests, h .sizes))) (eight (back .amount) (s .amounts) (omega (tests, h .sizes))) j (λ q. omega arith))
           ∙ below j l
         where
-          eight : (x : ℕ) (xs : List ℕ) → length xs ≡ 256 → length (slotsAfter (back .first) (back .amount) (getD (s .counts) (firstOf s .thread) 0) x (rowAt (firstOf s .thread) xs)) ≡ 8
+          eight : (x : ℕ) (xs : List ℕ) → length xs ≡ 256 → length (slotsAfter (back .first) (back .amount) (getD (s .counts) (firstOf s .thread) 0) x (slotsAt (firstOf s .thread) xs)) ≡ 8
           eight x xs l =
               let n = row-length (firstOf s .thread) xs first-small l in
-              slots-length (back .first) (back .amount) (getD (s .counts) (firstOf s .thread) 0) x (rowAt (firstOf s .thread) xs) (omega arith) ∙ n
+              slots-length (back .first) (back .amount) (getD (s .counts) (firstOf s .thread) 0) x (slotsAt (firstOf s .thread) xs) (omega arith) ∙ n
 
   -- one entry fewer
   pub backed-fewer : sum (backed .counts) < sum (s .counts)
@@ -216,7 +216,7 @@ module _ (s : State) (h : Mid s) (d : firstOf s .thread ≡ 32 → ⊥) (e : fir
 -- ---- nothing is due now
 
 module _ (s : State) (h : Mid s) (q : 0 < firstOf s .due → s .now < firstOf s .due) where
-  settled : (i : ℕ) → i < 32 → 0 < getD (s .counts) i 0 → s .now < getD (rowAt i (s .dues)) 0 0
+  settled : (i : ℕ) → i < 32 → 0 < getD (s .counts) i 0 → s .now < getD (slotsAt i (s .dues)) 0 0
   settled i l c = let r = next-due (λ i. s .now - 1) s h i l c in omega (arith, q (r .0), r .1)
 
   pub settled-sound : Sound s

@@ -14,11 +14,11 @@ use Rattle.ticks.specs.Running.{level, head, idles, charge, next}
 use Rattle.moments.specs.Changes.{withEffect}
 use Rattle.state.specs.Updates.{withThread, withLists, withLeft}
 
--- Passing 7: the quantum has ended: the tail of its list p, with a full quantum
+-- 01 Passing 7: the quantum has ended: the tail of its list p, with a full quantum
 abbrev pub quantumEnded : ℕ → ℕ → Thread → State → State
 quantumEnded p i t s = withLists (moved i p p (s .lists)) (withThread i (withLeft (t .parameters .budget) t) s)
 
--- Passing 6 and 7: the limit or the end of the quantum of thread i, which runs in list p
+-- 01 Passing 6 and 7: the limit or the end of the quantum of thread i, which runs in list p
 abbrev pub limitsOf : ℕ → ℕ → Thread → State → State
 limitsOf p i t s =
     byPolicy (t .parameters .policy) s
@@ -30,27 +30,27 @@ limitsOf p i t s =
 unfoldable pub limits : State → State
 limits s = cond (idles s) s (limitsOf (level s) (head s) (threadAt s (head s)) s)
 
--- Passing 8: the first of thread i's entries comes back
+-- 01 Passing 8: the first of thread i's entries comes back
 abbrev pub firstReturned : ℕ → State → State
 firstReturned i s = withEffect i (returnFirst (s .now) (isBlocked (threadAt s i)) (threadAt s i .parameters) (accountAt s i)) s
 
--- Passing 8: thread i's entries that are due now come back, one after the other, at most k of them
+-- 01 Passing 8: thread i's entries that are due now come back, one after the other, at most k of them
 unfoldable pub replenish : ℕ → ℕ → State → State
 replenish zero i s = s
 replenish (suc k) i s = cond (firstIsDue (s .now) (pendingAt s i)) (replenish k i (firstReturned i s)) s
 
--- Passing 8: by thread number, of the threads below n
+-- 01 Passing 8: by thread number, of the threads below n
 unfoldable pub replenishBelow : ℕ → State → State
 replenishBelow zero s = s
 replenishBelow (suc n) s = let u = replenishBelow n s in replenish (getD (u .counts) n 0) n u
 
--- Passing 5 to 8: what happens at a moment, in this order
+-- 01 Passing 5 to 8: what happens at a moment, in this order
 unfoldable pub fire : State → State
 fire s = replenishBelow (s .header .n) (limits s)
 
 abbrev pub clock : Clock State
 clock = record { now = λ s. s .now; next = next; charge = charge; fire = fire }
 
--- Passing 1: the state at the time t
+-- 01 Passing 1: the state at the time t
 abbrev pub passed : State → ℕ → State
 passed s t = advance clock s t

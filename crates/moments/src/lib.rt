@@ -4,21 +4,24 @@ ghost use mathlib.Core.Bool.{true, false, cond};
 ghost use Prim.Native.Nat.{_<_, _≤_, _^_};
 ghost use lib.Dec.{eqb};
 ghost use lib.ListN.{length};
+ghost use Rattle.records.specs.Ranges.{mostThreads};
 ghost use Rattle.account.specs.Rules.{dueOf, limitEffect, returnEffect, Room, slotsAfter};
 ghost use Rattle.account.specs.declared.Place.the-variants.{Stays, Low, LowThenUpper, Upper};
 ghost use Rattle.ready.specs.Lists.{moved};
 ghost use Rattle.ready.specs.Word.{occupancy};
 ghost use Rattle.ready.specs.Rules.{Movable};
-ghost use Rattle.rows.specs.Rows.{rowAt, withRow};
+ghost use Rattle.rows.specs.Rows.{allSlots, slotsAt, withSlots};
 ghost use Rattle.state.specs.Sound.{soundState};
 ghost use Rattle.state.specs.State.{isBlocked};
 ghost use Rattle.ticks.specs.Running.{earlier};
 ghost use Rattle.moments.specs.Changes.{sentTo};
 ghost use Rattle.moments.specs.Moments.{passed};
 ghost use Rattle.state.specs.Updates.{withLeft};
+use account::ENTRIES;
 use account::Effect;
 use account::Place;
 use records::Parameters;
+use rows::SLOTS;
 use state::State;
 use state::Thread;
 
@@ -36,7 +39,7 @@ fn limit_first(limit: u64, due: u64) -> bool
 }
 
 // An RR thread with a full quantum.
-fn refilled(t: Thread) -> Thread
+fn with_full_quantum(t: Thread) -> Thread
     ensures { λ r. ⌜ r ≡ withLeft (t .parameters .budget) t ⌝ }
 {
     let q = t.parameters;
@@ -124,18 +127,18 @@ fn effect_at(limited: bool, time: u64, t: Thread, count: u8, amount: u64) -> Eff
 }
 
 // Thread i's dues or amounts after it: x is the due time or the amount of an entry that came.
-fn change_row(xs: &mut [u64; 256], i: usize, first: bool, amount: u64, count: u8, x: u64)
-    requires { ⌜ (i < 32) × (length (now xs) ≡ 256) × Room first amount count ⌝ }
-    ensures { λ _. ⌜ now (xs .exit) ≡ withRow i (slotsAfter first amount count x (rowAt i (now (xs .entry)))) (now (xs .entry)) ⌝ }
+fn change_row(xs: &mut [u64; SLOTS], i: usize, first: bool, amount: u64, count: u8, x: u64)
+    requires { ⌜ (i < mostThreads) × (length (now xs) ≡ allSlots) × Room first amount count ⌝ }
+    ensures { λ _. ⌜ now (xs .exit) ≡ withSlots i (slotsAfter first amount count x (slotsAt i (now (xs .entry)))) (now (xs .entry)) ⌝ }
 {
     if first {
-        rows::shift_row(xs, i);
+        rows::remove_first(xs, i);
         return;
     }
     if amount == 0 {
         return;
     }
-    rows::write_place(xs, i, count, x);
+    rows::write_slot(xs, i, count, x);
 }
 
 // The state at the time t. Each turn charges the ticks up to the next moment and does one thing that happens at it: the
@@ -170,7 +173,7 @@ pub fn advance(s0: State, t: u64) -> State
         s.now = m;
         let limited = limit_first(limit, x.due);
         if ends_quantum(limited, after.parameters.policy) {
-            let full = refilled(after);
+            let full = with_full_quantum(after);
             s.threads[i] = full;
             let word = s.word;
             s.word = ready::move_to_tail(&mut s.lists, word, h, p, p);
@@ -178,7 +181,7 @@ pub fn advance(s0: State, t: u64) -> State
         }
         s.threads[i] = after;
         let j = concerned(limited, i, x.thread);
-        let at = j * 8;
+        let at = j * ENTRIES;
         let w = s.threads[j];
         let count = s.counts[j];
         let next = s.amounts[at];

@@ -7,7 +7,7 @@ use Rattle.records.specs.declared.Header.{Header}
 use Rattle.account.specs.declared.Server.{Server}
 use Rattle.account.specs.declared.Account.{Account}
 use Rattle.ready.specs.Word.{occupancy}
-use Rattle.rows.specs.Rows.{withRow}
+use Rattle.rows.specs.Rows.{withSlots}
 use Rattle.state.specs.declared.Thread.{Thread}
 use Rattle.state.specs.declared.State.{State}
 
@@ -68,5 +68,5 @@ withLists l s = stateOf (s .header) (s .now) (s .idle) (occupancy l) (s .threads
 -- another thread and account at place i
 abbrev pub withAccount : ℕ → Thread → Account → State → State
 withAccount i t a s =
-    withEntries (set (s .counts) i (a .pending .count)) (withRow i (a .pending .dues) (s .dues)) (withRow i (a .pending .amounts) (s .amounts))
+    withEntries (set (s .counts) i (a .pending .count)) (withSlots i (a .pending .dues) (s .dues)) (withSlots i (a .pending .amounts) (s .amounts))
     (withThread i (withServer (a .server) t) s)

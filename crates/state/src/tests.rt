@@ -4,7 +4,7 @@ ghost use mathlib.Core.Bool.{cond};
 ghost use Prim.Native.Nat.{_<_};
 ghost use lib.ListN.{length};
 ghost use Rattle.records.specs.Tests.{all, zeros};
-ghost use Rattle.rows.specs.Rows.{rowAt, pendingOf};
+ghost use Rattle.rows.specs.Rows.{slotsAt, pendingOf};
 ghost use Rattle.state.specs.Sound.{noAccountTests, leftTests, accountTest, presentTest, absentTest};
 use super::Thread;
 use account::Account;
@@ -13,7 +13,7 @@ use account::Server;
 // Whether thread i's eight places hold 0.
 fn row_zero(xs: &[u64; 256], i: usize) -> bool
     requires { ⌜ (i < 32) × (length (now xs) ≡ 256) ⌝ }
-    ensures { λ r. ⌜ r ≡ all (zeros (rowAt i (now (xs .entry)))) ⌝ }
+    ensures { λ r. ⌜ r ≡ all (zeros (slotsAt i (now (xs .entry)))) ⌝ }
 {
     // to the end in any case: a loop that may return early is compiled number by number
     let from = i * 8;

@@ -3,33 +3,45 @@ ghost use mathlib.Core.Path.{_≡_};
 ghost use mathlib.Core.Bool.{false, cond};
 ghost use Prim.Native.Nat.{_+_, _<_, _≤_, _^_};
 ghost use lib.Dec.{eqb};
+ghost use Rattle.records.specs.Ranges.{mostThreads};
 ghost use Rattle.ready.specs.Lists.{headOf};
 ghost use Rattle.ready.specs.Word.{highestOf};
 ghost use Rattle.ready.specs.Rules.{Held};
 ghost use Rattle.passing.specs.Time.{dueBy};
 ghost use Rattle.ticks.specs.Running.{ran, earlier, limitOf, sooner, nextDue, NextAfter, NoneBefore};
+use account::ENTRIES;
+use rows::SLOTS;
+use rows::THREADS;
 use state::Thread;
 
-// The first of the dues, and the lowest thread that has it; thread 32 for none.
+// The first of the dues, and the lowest thread that has it; thread THREADS for none.
 pub struct Due {
     pub due: u64,
     pub thread: usize,
 }
 
 // Of the first n threads that have a replenishment pending: the least first due and the lowest thread that has it.
-pub fn next_due<'a>(counts: &'a [u8; 32], dues: &'a [u64; 256], n: usize) -> Due
-    requires { ⌜ n ≤ 32 ⌝ }
+pub fn next_due<'a>(counts: &'a [u8; THREADS], dues: &'a [u64; SLOTS], n: usize) -> Due
+    requires { ⌜ n ≤ mostThreads ⌝ }
     ensures { λ r. ⌜ r ≡ nextDue (now (counts .entry)) (now (dues .entry)) n ⌝ }
 {
     next_due_from(counts, dues, n, 0)
 }
 
 // The same, where no first due is before `earliest`: the search ends at the first that is not after it, since none is sooner.
-pub fn next_due_from<'a>(counts: &'a [u8; 32], dues: &'a [u64; 256], n: usize, earliest: u64) -> Due
-    requires { ⌜ (n ≤ 32) × NoneBefore (now counts) (now dues) n earliest ⌝ }
+pub fn next_due_from<'a>(
+    counts: &'a [u8; THREADS],
+    dues: &'a [u64; SLOTS],
+    n: usize,
+    earliest: u64,
+) -> Due
+    requires { ⌜ (n ≤ mostThreads) × NoneBefore (now counts) (now dues) n earliest ⌝ }
     ensures { λ r. ⌜ r ≡ nextDue (now (counts .entry)) (now (dues .entry)) n ⌝ }
 {
-    let mut best = Due { due: 0, thread: 32 };
+    let mut best = Due {
+        due: 0,
+        thread: THREADS,
+    };
     let mut i: usize = 0;
     while i < n {
         let k = i;
@@ -38,7 +50,7 @@ pub fn next_due_from<'a>(counts: &'a [u8; 32], dues: &'a [u64; 256], n: usize, e
         if count == 0 {
             continue;
         }
-        best = sooner_of(best, k, count, dues[k * 8]);
+        best = sooner_of(best, k, count, dues[k * ENTRIES]);
         if best.due <= earliest {
             return best;
         }
@@ -53,7 +65,7 @@ fn sooner_of(best: Due, k: usize, count: u8, d: u64) -> Due
     if count == 0 {
         return best;
     }
-    if best.thread == 32 {
+    if best.thread == THREADS {
         return Due { due: d, thread: k };
     }
     if d < best.due {
@@ -235,11 +247,11 @@ pub fn next_moment<'a>(
     time: u64,
     p: u8,
     t: Thread,
-    counts: &'a [u8; 32],
-    dues: &'a [u64; 256],
+    counts: &'a [u8; THREADS],
+    dues: &'a [u64; SLOTS],
     n: usize,
 ) -> u64
-    requires { ⌜ (n ≤ 32) × (time + t .left < 2 ^ 64) × (time + t .server .capacity < 2 ^ 64) ⌝ }
+    requires { ⌜ (n ≤ mostThreads) × (time + t .left < 2 ^ 64) × (time + t .server .capacity < 2 ^ 64) ⌝ }
     ensures { λ r. ⌜ r ≡ earlier (cond (eqb p 0) 0 (limitOf time p t)) (nextDue (now (counts .entry)) (now (dues .entry)) n .due) ⌝ }
 {
     let x = next_due(counts, dues, n);

@@ -12,8 +12,8 @@ use Rattle.records.proofs.TestLaws.{tests, all-false, all-true, all-one, cond-e
 use Rattle.records.specs.declared.Parameters.{Parameters}
 use Rattle.account.specs.declared.Server.{Server}
 use Rattle.account.specs.declared.Account.{Account}
-use Rattle.account.specs.Account.{dues, amounts}
-use Rattle.account.specs.Sound.{runsUpper, dueEnd, numberTests, amountTests, dueTests, placeTests, soundTests, soundAt}
+use Rattle.account.specs.Account.{pendingDues, pendingAmounts}
+use Rattle.account.specs.Sound.{runsUpper, dueEnd, numberTests, amountTests, dueTests, slotTests, soundTests, soundAt}
 use Rattle.account_sound.proofs.sound.Statement.{statement}
 use Rattle.account_sound.proofs.sound.Tie as tie
 
@@ -25,11 +25,11 @@ module _ (start now : ℕ) (blocked : Bool) (p : Parameters) (a : Account) (up :
 
   module _ (n : ℕ) (en : n ≡ a .pending .count) where
     sums : (r : Bool) → r ≡ all (amountTests (p .budget) (a .server .capacity + a .server .used) (take n (a .pending .amounts)))
-        → r ≡ all (amountTests (p .budget) (a .server .capacity + a .server .used) (amounts (a .pending)))
+        → r ≡ all (amountTests (p .budget) (a .server .capacity + a .server .used) (pendingAmounts (a .pending)))
     sums r e = e ∙ ap (λ (k : ℕ). all (amountTests (p .budget) (a .server .capacity + a .server .used) (take k (a .pending .amounts)))) en
 
     times : (base : ℕ) (r : Bool) → base ≡ cond up (a .server .activation) now → r ≡ all (dueTests now (base + p .period) (take n (a .pending .dues)))
-        → r ≡ all (dueTests now (dueEnd now (runsUpper blocked p a) p (a .server)) (dues (a .pending)))
+        → r ≡ all (dueTests now (dueEnd now (runsUpper blocked p a) p (a .server)) (pendingDues (a .pending)))
     times base r eb e =
         e
         ∙ ap (λ (b : ℕ). all (dueTests now (b + p .period) (take n (a .pending .dues)))) (eb ∙ ap (λ (u : Bool). cond u (a .server .activation) now) eu)
@@ -44,8 +44,8 @@ fifth : (t u v w x : Bool) → t ≡ true → u ≡ true → v ≡ true → w �
 unfolding all
 fifth t u v w x a b c d = simp (a, b, c, d, all-one)
 
-places : (n count : ℕ) (xs : List ℕ) (r : Bool) → n ≡ count → r ≡ all (placeTests n xs) → r ≡ all (placeTests count xs)
-places n count xs r en e = e ∙ ap (λ (k : ℕ). all (placeTests k xs)) en
+places : (n count : ℕ) (xs : List ℕ) (r : Bool) → n ≡ count → r ≡ all (slotTests n xs) → r ≡ all (slotTests count xs)
+places n count xs r en e = e ∙ ap (λ (k : ℕ). all (slotTests k xs)) en
 
 runs-upper-requires : tie.Need-runs-upper-requires
 runs-upper-requires c κs = search needs
@@ -89,17 +89,17 @@ returns-3 c =
     let a = c .before .before .before .before .before .before .before .before .before .before .before .before .args in
     sym (all-false (soundTests (a .start) (a .now) (a .blocked) (a .p) (a .a)) 2 (sym (times (a .start) (a .now) (a .blocked) (a .p) (a .a) _ (c .before .before .before .before .before .before .before .before .before .before .runs-upper .ensures) _ (c .before .before .before .before .before .before .before .wide .ensures) _ _ (c .before .before .either .ensures) (c .before .dues-hold .ensures)) ∙ not-true _ (c .if3 .taken)))
 
-places-hold-requires : tie.Need-places-hold-requires
-places-hold-requires c κs = search needs
+slots-hold-requires : tie.Need-slots-hold-requires
+slots-hold-requires c κs = search needs
 
 returns-4 : tie.Need-returns-4
 unfolding soundAt
 returns-4 c =
     let a = c .before .before .before .before .before .before .before .before .before .before .before .before .before .before .args in
-    sym (all-false (soundTests (a .start) (a .now) (a .blocked) (a .p) (a .a)) 3 (sym (places _ _ (a .a .pending .dues) _ (c .before .before .before .before .before .before .before .before .before .wide .ensures) (c .before .places-hold .ensures)) ∙ not-true _ (c .if4 .taken)))
+    sym (all-false (soundTests (a .start) (a .now) (a .blocked) (a .p) (a .a)) 3 (sym (places _ _ (a .a .pending .dues) _ (c .before .before .before .before .before .before .before .before .before .wide .ensures) (c .before .slots-hold .ensures)) ∙ not-true _ (c .if4 .taken)))
 
-places-hold-requires-2 : tie.Need-places-hold-requires-2
-places-hold-requires-2 c κs = search needs
+slots-hold-requires-2 : tie.Need-slots-hold-requires-2
+slots-hold-requires-2 c κs = search needs
 
 returns-5 : tie.Need-returns-5
 unfolding soundAt
@@ -108,8 +108,8 @@ returns-5 c =
     let first = sym (numbers (a .start) (a .now) (a .blocked) (a .p) (a .a) _ (c .before .before .before .before .before .before .before .before .before .before .before .before .before .runs-upper .ensures) _ (c .before .before .before .before .before .before .before .before .before .before .before .before .numbers-hold .ensures)) ∙ not-false _ (c .before .before .before .before .before .before .before .before .before .before .before .if1 .left) in
     let second = sym (sums (a .start) (a .now) (a .blocked) (a .p) (a .a) _ (c .before .before .before .before .before .before .before .before .before .before .before .before .before .runs-upper .ensures) _ (c .before .before .before .before .before .before .before .before .before .before .wide .ensures) _ (c .before .before .before .before .before .before .before .before .amounts-hold .ensures)) ∙ not-false _ (c .before .before .before .before .before .before .before .if2 .left) in
     let third = sym (times (a .start) (a .now) (a .blocked) (a .p) (a .a) _ (c .before .before .before .before .before .before .before .before .before .before .before .before .before .runs-upper .ensures) _ (c .before .before .before .before .before .before .before .before .before .before .wide .ensures) _ _ (c .before .before .before .before .before .either .ensures) (c .before .before .before .before .dues-hold .ensures)) ∙ not-false _ (c .before .before .before .if3 .left) in
-    let fourth = sym (places _ _ (a .a .pending .dues) _ (c .before .before .before .before .before .before .before .before .before .before .wide .ensures) (c .before .before .places-hold .ensures)) ∙ not-false _ (c .before .if4 .left) in
-    places _ _ (a .a .pending .amounts) _ (c .before .before .before .before .before .before .before .before .before .before .wide .ensures) (c .places-hold2 .ensures)
+    let fourth = sym (places _ _ (a .a .pending .dues) _ (c .before .before .before .before .before .before .before .before .before .before .wide .ensures) (c .before .before .slots-hold .ensures)) ∙ not-false _ (c .before .if4 .left) in
+    places _ _ (a .a .pending .amounts) _ (c .before .before .before .before .before .before .before .before .before .before .wide .ensures) (c .slots-hold2 .ensures)
     ∙ sym (fifth _ _ _ _ _ first second third fourth)
 
 pub sound-spec : {M : Type 1} → statement M
@@ -125,7 +125,7 @@ sound-spec =
     either-requires
     dues-hold-requires
     returns-3
-    places-hold-requires
+    slots-hold-requires
     returns-4
-    places-hold-requires-2
+    slots-hold-requires-2
     returns-5)

@@ -197,8 +197,8 @@ at-end : (c : tie.Then2 Inv-loop μ-loop)
     × (eqb (ticked (c .before .before .before) .thread .parameters .policy) 1 ≡ true)
 at-end c = both _ _ (sym (ends (c .before)) ∙ c .if2 .taken)
 
-refilled-requires : tie.Need-refilled-requires Inv-loop μ-loop
-refilled-requires c κs = tt
+with-full-quantum-requires : tie.Need-with-full-quantum-requires Inv-loop μ-loop
+with-full-quantum-requires c κs = tt
 
 mul-full : tie.Need-mul-full Inv-loop μ-loop
 mul-full c = omega (arith, head-small (c .before .before .before .before .before .before .before .before .before .before .before))
@@ -213,8 +213,8 @@ loop-less : tie.Need-loop-less Inv-loop μ-loop
 loop-less c =
     let d = c .before .before .before .before .before .before in
     let q = at-end (c .before .before .before) in
-    (ended-turn (turnOf d) (ticked d) (q .0) (eqb-true _ _ (q .1)) (c .before .before .refilled .result) (c .move-to-tail .result) _
-    (c .before .before .refilled .ensures) (c .move-to-tail .ensures .1) (c .move-to-tail .ensures .0)) .1
+    (ended-turn (turnOf d) (ticked d) (q .0) (eqb-true _ _ (q .1)) (c .before .before .with-full-quantum .result) (c .move-to-tail .result) _
+    (c .before .before .with-full-quantum .ensures) (c .move-to-tail .ensures .1) (c .move-to-tail .ensures .0)) .1
 
 loop-again : tie.Need-loop-again Inv-loop μ-loop
 loop-again c =
@@ -222,8 +222,8 @@ loop-again c =
     let q = at-end (c .before .before .before) in
     record {
       going =
-          (ended-turn (turnOf d) (ticked d) (q .0) (eqb-true _ _ (q .1)) (c .before .before .refilled .result) (c .move-to-tail .result) _
-          (c .before .before .refilled .ensures) (c .move-to-tail .ensures .1) (c .move-to-tail .ensures .0)) .0;
+          (ended-turn (turnOf d) (ticked d) (q .0) (eqb-true _ _ (q .1)) (c .before .before .with-full-quantum .result) (c .move-to-tail .result) _
+          (c .before .before .with-full-quantum .ensures) (c .move-to-tail .ensures .1) (c .move-to-tail .ensures .0)) .0;
       size = size (d .before .before .before .before);
       first = turnOf d .seen .first;
     }
@@ -439,7 +439,7 @@ advance-spec =
     charged-idle-requires-2
     limit-first-requires
     ends-quantum-requires
-    refilled-requires
+    with-full-quantum-requires
     mul-full
     element-set-from-full
     move-to-tail-requires

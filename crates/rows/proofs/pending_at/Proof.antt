@@ -1,10 +1,10 @@
--- `state::pending_at` meets its contract: each row is what `read_row` gives.
+-- `rows::pending_at` meets its contract: each row is what `read_row` gives.
 use mathlib.Core.Path.{ap, _∙_}
 use mathlib.Core.List.{List}
 use Prim.Native.Nat.{ℕ}
 use lib.ListN.{getD}
 use Rattle.account.specs.declared.Pending.{Pending}
-use Rattle.rows.specs.Rows.{rowAt}
+use Rattle.rows.specs.Rows.{slotsAt}
 use borrow.Author.Needs.{needs}
 use Rattle.rows.proofs.pending_at.Statement.{statement}
 use Rattle.rows.proofs.pending_at.Tie as tie
@@ -26,7 +26,7 @@ returns c =
     let a = c .before .before .before .args in
     let n = getD (a .counts .now) (a .i) 0 in
     ap (λ (xs : List ℕ). made n xs (c .read-row2 .result)) (c .before .read-row .ensures)
-    ∙ ap (λ (xs : List ℕ). made n (rowAt (a .i) (a .dues .now)) xs) (c .read-row2 .ensures)
+    ∙ ap (λ (xs : List ℕ). made n (slotsAt (a .i) (a .dues .now)) xs) (c .read-row2 .ensures)
 
 pub pending-at-spec : {M : Type 1} → statement M
 pending-at-spec =

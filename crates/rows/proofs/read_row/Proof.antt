@@ -1,4 +1,4 @@
--- `state::read_row` meets its contract. The invariant: the first j places are read.
+-- `rows::read_row` meets its contract. The invariant: the first j slots are read.
 use Prim.Native.Nat.{_-_, _≤_}
 use mathlib.Core.Path.{_≡_, refl, ap, _∙_}
 use native.Mathlib.Omega.{arith}

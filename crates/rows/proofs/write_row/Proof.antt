@@ -1,4 +1,4 @@
--- `state::write_row` meets its contract. The invariant: the first j places are written.
+-- `rows::write_row` meets its contract. The invariant: the first j slots are written.
 use Prim.Native.Nat.{_*_, _-_, _≤_}
 use mathlib.Core.Path.{_≡_, ap, _∙_}
 use native.Mathlib.Omega.{arith}

@@ -1,6 +1,5 @@
 -- `executive::effects::change_of` meets its contract.
 use borrow.Author.Needs.{needs}
-use mathlib.Core.Bool.{false}
 use mathlib.Core.Path.{refl, sym, ap, _∙_}
 use Rattle.state.specs.declared.Thread.{Thread}
 use Rattle.state.specs.State.{placeOf}

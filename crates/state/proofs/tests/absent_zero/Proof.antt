@@ -8,9 +8,9 @@ use Rattle.records.specs.Tests.{all}
 use Rattle.records.specs.Ranges.{allZero}
 use Rattle.records.proofs.TestLaws.{all-false}
 use Rattle.account.specs.declared.Pending.{Pending}
+use Rattle.rows.specs.Rows.{pendingOf}
 use Rattle.state.specs.declared.Thread.{Thread}
 use Rattle.state.specs.Sound.{noAccountTests, absentTest}
-use Rattle.rows.specs.Rows.{pendingOf}
 use Rattle.state.proofs.TestLaws.{decided-true, decided-false, _and_, by-last}
 use borrow.Author.Needs.{needs}
 use Rattle.state.proofs.tests.absent_zero.Statement.{statement}

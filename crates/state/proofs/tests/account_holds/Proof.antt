@@ -6,9 +6,9 @@ use borrow.Author.Needs.{needs}
 use Rattle.records.specs.Tests.{all}
 use Rattle.account.specs.declared.Pending.{Pending}
 use Rattle.account.specs.Sound.{soundAt}
+use Rattle.rows.specs.Rows.{pendingOf}
 use Rattle.state.specs.declared.Thread.{Thread}
 use Rattle.state.specs.Sound.{noAccountTests, accountTest}
-use Rattle.rows.specs.Rows.{pendingOf}
 use Rattle.state.proofs.TestLaws.{policy-low, policy-sporadic}
 use Rattle.state.proofs.tests.account_holds.Statement.{statement}
 use Rattle.state.proofs.tests.account_holds.Tie as tie

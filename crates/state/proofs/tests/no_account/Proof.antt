@@ -2,8 +2,8 @@
 use mathlib.Core.Path.{sym}
 use borrow.Author.Tests.{eq-eqb, ne-eqb}
 use Rattle.records.proofs.TestLaws.{all-false}
-use Rattle.state.specs.Sound.{noAccountTests}
 use Rattle.rows.specs.Rows.{pendingOf}
+use Rattle.state.specs.Sound.{noAccountTests}
 use Rattle.state.proofs.TestLaws.{decided-true, decided-false, _and_, by-last}
 use borrow.Author.Needs.{needs}
 use Rattle.state.proofs.tests.no_account.Statement.{statement}

@@ -9,9 +9,9 @@ use Rattle.records.specs.Tests.{all}
 use Rattle.records.specs.Ranges.{mostReplenishments, inRange}
 use Rattle.records.proofs.TestLaws.{all-false}
 use Rattle.account.specs.declared.Pending.{Pending}
+use Rattle.rows.specs.Rows.{pendingOf}
 use Rattle.state.specs.declared.Thread.{Thread}
 use Rattle.state.specs.Sound.{leftTests, accountTest, presentTest}
-use Rattle.rows.specs.Rows.{pendingOf}
 use Rattle.state.proofs.TestLaws.{decided-true, decided-false, _and_, by-last}
 use borrow.Author.Needs.{needs}
 use Rattle.state.proofs.tests.present_sound.Statement.{statement}

@@ -8,13 +8,13 @@ use native.Mathlib.Omega.{arith}
 use Rattle.records.specs.Tests.{all, zeros}
 use Rattle.records.proofs.TestLaws.{all-one, cond-never}
 use Rattle.account_sound.proofs.ScanLaws.{zero-step, zero-not}
-use Rattle.rows.specs.Rows.{rowAt}
+use Rattle.rows.specs.Rows.{slotsAt}
 use Rattle.rows.proofs.RowLaws.{row-length, row-at}
 use Rattle.state.proofs.tests.row_zero.Statement.{statement}
 use Rattle.state.proofs.tests.row_zero.Tie as tie
 
 abbrev Inv-loop : tie.InvT-loop
-Inv-loop xs i from clean₀ j₀ clean j = cond clean (all (zeros (drop j (rowAt i xs)))) false ≡ all (zeros (rowAt i xs))
+Inv-loop xs i from clean₀ j₀ clean j = cond clean (all (zeros (drop j (slotsAt i xs)))) false ≡ all (zeros (slotsAt i xs))
 
 abbrev μ-loop : tie.MeasureT-loop
 μ-loop xs i from clean₀ j₀ clean j = 8 - j
@@ -47,7 +47,7 @@ loop-again c =
     let n = row-length (a .i) (a .xs .now) (omega arith) (omega arith) in
     let e = row-at (a .i) (a .xs .now) (omega arith) (omega arith) (b .loop .j) (omega arith) in
     sym (cond-never (b .loop .clean))
-    ∙ sym (ap (λ (t : Bool). cond (b .loop .clean) t false) (zero-not (b .loop .j) (rowAt (a .i) (a .xs .now)) (omega arith) (λ z. c .if1 .taken (sym e ∙ z))))
+    ∙ sym (ap (λ (t : Bool). cond (b .loop .clean) t false) (zero-not (b .loop .j) (slotsAt (a .i) (a .xs .now)) (omega arith) (λ z. c .if1 .taken (sym e ∙ z))))
     ∙ b .loop .inv
 
 loop-less-2 : tie.Need-loop-less-2 Inv-loop μ-loop
@@ -59,7 +59,7 @@ loop-again-2 c =
     let a = b .before .args in
     let n = row-length (a .i) (a .xs .now) (omega arith) (omega arith) in
     let e = row-at (a .i) (a .xs .now) (omega arith) (omega arith) (b .loop .j) (omega arith) in
-    sym (ap (λ (t : Bool). cond (b .loop .clean) t false) (zero-step (b .loop .j) (rowAt (a .i) (a .xs .now)) (omega arith) (e ∙ c .if1 .left))) ∙ b .loop .inv
+    sym (ap (λ (t : Bool). cond (b .loop .clean) t false) (zero-step (b .loop .j) (slotsAt (a .i) (a .xs .now)) (omega arith) (e ∙ c .if1 .left))) ∙ b .loop .inv
 
 returns : tie.Need-returns Inv-loop μ-loop
 unfolding all
@@ -68,7 +68,7 @@ returns c =
     let a = b .before .args in
     let n = row-length (a .i) (a .xs .now) (omega arith) (omega arith) in
     sym (all-one (b .loop .clean))
-    ∙ sym (ap (λ (ys : List ℕ). cond (b .loop .clean) (all (zeros ys)) false) (drop-of-length-le (rowAt (a .i) (a .xs .now)) {i = b .loop .j} (omega arith)))
+    ∙ sym (ap (λ (ys : List ℕ). cond (b .loop .clean) (all (zeros ys)) false) (drop-of-length-le (slotsAt (a .i) (a .xs .now)) {i = b .loop .j} (omega arith)))
     ∙ b .loop .inv
 
 pub row-zero-spec : {M : Type 1} → statement M

@@ -1,9 +1,9 @@
--- `state::write_place` meets its contract.
+-- `rows::write_slot` meets its contract.
 use borrow.Author.Needs.{needs}
 use native.Mathlib.Omega.{arith}
 use Rattle.rows.proofs.RowLaws.{row-set}
-use Rattle.rows.proofs.write_place.Statement.{statement}
-use Rattle.rows.proofs.write_place.Tie as tie
+use Rattle.rows.proofs.write_slot.Statement.{statement}
+use Rattle.rows.proofs.write_slot.Tie as tie
 
 mul-xs : tie.Need-mul-xs
 mul-xs c = search needs
@@ -20,5 +20,5 @@ element-write-xs c = search needs
 returns : tie.Need-returns
 returns c = row-set (c .args .i) (c .args .k) (c .args .x) (c .args .xs .now) (omega arith)
 
-pub write-place-spec : {M : Type 1} → statement M
-write-place-spec = tie.close (tie.spec mul-xs add-xs mul-xs-2 element-write-xs returns)
+pub write-slot-spec : {M : Type 1} → statement M
+write-slot-spec = tie.close (tie.spec mul-xs add-xs mul-xs-2 element-write-xs returns)

@@ -1,4 +1,4 @@
--- `account_sound::tests::places_hold` meets its contract.
+-- `account_sound::tests::slots_hold` meets its contract.
 use Prim.Native.Nat.{ℕ, _-_}
 use mathlib.Core.Path.{_≡_, refl, sym, ap, _∙_}
 use mathlib.Core.List.{List}
@@ -6,13 +6,13 @@ use lib.ListN.{length, drop, drop-of-length-le}
 use native.Mathlib.Omega.{arith}
 use Rattle.records.specs.Tests.{all, zeros}
 use borrow.Author.Tests.{eq-eqb}
-use Rattle.account.specs.Sound.{placeTests}
+use Rattle.account.specs.Sound.{slotTests}
 use Rattle.account_sound.proofs.ScanLaws.{zero-step, zero-not}
-use Rattle.account_sound.proofs.tests.places_hold.Statement.{statement}
-use Rattle.account_sound.proofs.tests.places_hold.Tie as tie
+use Rattle.account_sound.proofs.tests.slots_hold.Statement.{statement}
+use Rattle.account_sound.proofs.tests.slots_hold.Tie as tie
 
 -- the length is what the type says, so the places decide
-long : (n : ℕ) (xs : List ℕ) → length xs ≡ 8 → all (placeTests n xs) ≡ all (zeros (drop n xs))
+long : (n : ℕ) (xs : List ℕ) → length xs ≡ 8 → all (slotTests n xs) ≡ all (zeros (drop n xs))
 unfolding all
 long n xs e = simp (eq-eqb (length xs) 8 e)
 
@@ -56,8 +56,8 @@ returns-2 c =
     let a = b .before .args in
     sym (long (a .n) (a .t1) (omega arith) ∙ sym (b .loop .inv) ∙ ap (λ (ys : List ℕ). all (zeros ys)) (drop-of-length-le (a .t1) {i = b .loop .i} (omega arith)))
 
-pub places-hold-spec : {M : Type 1} → statement M
-places-hold-spec =
+pub slots-hold-spec : {M : Type 1} → statement M
+slots-hold-spec =
     tie.close
     (tie.spec
     Inv-loop
