@@ -1,11 +1,11 @@
-/* What the static libraries export, for C: the functions of crates/board and crates/board_trace, and the structs that they name. A slice
+/* What the static libraries export, for C: the functions of crates/board, crates/board_trace and crates/board_text, and the structs that they name. A slice
    is a pointer and then a length. */
 #ifndef THAWONLAI_H
 #define THAWONLAI_H
 #include <stddef.h>
 #include <stdint.h>
 
-enum { THREADS = 32, ENTRIES = 8, ROW = 33 };
+enum { THREADS = 32, ENTRIES = 8, ROW = 33, EVENTS = 1500 };
 
 struct parameters { uint8_t policy, priority, low, max_repl; uint32_t flag; uint64_t budget, period; };
 struct event { uint64_t time; uint8_t kind, thread; struct parameters parameters; };
@@ -24,14 +24,19 @@ struct state {
 struct reply { uint8_t status, running; uint64_t next; };
 struct answer { uint8_t status, running; uint64_t next; struct state state; };
 struct table { struct parameters threads[THREADS]; };
+struct events { struct event events[EVENTS]; };
 struct found { uint8_t status; uint32_t n; uint64_t start; size_t count; };
 struct written { uint8_t status; size_t total; };
 struct listed { uint8_t status; size_t length; };
+struct made { uint8_t status; size_t line, total; };
 
 struct reply thawonlai_event(struct state *state, struct event e);
 struct answer thawonlai_open(uint64_t start, uint32_t n, struct table table);
 uint8_t thawonlai_sound(struct state s);
 struct found thawonlai_read(const uint8_t *file, size_t length);
+struct written thawonlai_write(struct header header, struct table table, struct events events, size_t count, uint8_t *out, size_t room);
 struct written thawonlai_copy(const uint8_t *file, size_t length, uint8_t *out, size_t room);
 struct listed thawonlai_listing(const uint8_t *file, size_t length, uint8_t *out, size_t room);
+struct made thawonlai_from_text(const uint8_t *text, size_t length, uint8_t *out, size_t room);
+struct made thawonlai_to_text(const uint8_t *file, size_t length, uint8_t *out, size_t room);
 #endif

@@ -5,11 +5,16 @@
 ghost use mathlib.Core.Path.{_≡_};
 ghost use Prim.Native.Nat.{_≤_};
 ghost use lib.ListN.{length};
-ghost use Rattle.trace.specs.Write.{copiedOf, copyOf};
+ghost use Rattle.trace.specs.Write.{writtenOf, outOf, copiedOf, copyOf};
 ghost use Rattle.listing.specs.Listing.{listedOf, bufferOf, largest};
 ghost use Rattle.board_trace.specs.Found.{foundIn};
 use listing::Listed;
+use records::Event;
+use records::Header;
+use records::Parameters;
 use trace::Written;
+use trace_records::EVENTS;
+use trace_records::THREADS;
 
 // What a read finds: the status, the number of threads, the start time and the number of events.
 #[repr(C)]
@@ -18,6 +23,34 @@ pub struct Found {
     pub n: u32,
     pub start: u64,
     pub count: usize,
+}
+
+// A thread table and the events of a file: an array on its own is not passed by value in C.
+#[repr(C)]
+pub struct Table {
+    pub threads: [Parameters; THREADS],
+}
+
+#[repr(C)]
+pub struct Events {
+    pub events: [Event; EVENTS],
+}
+
+// Writes a file of the first n threads of the table and the first `count` events into a buffer. A refused write changes no byte.
+#[no_mangle]
+pub extern "C" fn thawonlai_write(
+    header: Header,
+    table: Table,
+    events: Events,
+    count: usize,
+    out: &mut [u8],
+) -> Written
+    ensures { λ r. ⌜ r ≡ writtenOf header count (length (now (out .entry))) ⌝ }
+    ensures { λ _. ⌜ now (out .exit) ≡ outOf header (table .threads) count (events .events) (now (out .entry)) ⌝ }
+{
+    let threads = table.threads;
+    let all = events.events;
+    trace::write(header, threads, count, all, out)
 }
 
 // Reads a trace file: its header and the number of its events.
