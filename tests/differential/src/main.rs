@@ -41,7 +41,7 @@ const SORTS: &[Sort] = &[
     // each byte as `blocked` of each place of a state
     sort("blocked", 6, blocked::blocked),
     // files written from any header, table and events
-    // sort("writes", 10_000, writes::writes),
+    sort("writes", 10_000, writes::writes),
     // texts made files and files written as text
     // sort("texts", 30_000, texts::texts),
     // another kernel's listings
