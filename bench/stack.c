@@ -1,6 +1,6 @@
 /* The stack that each exported function takes, measured: it runs on a stack that was painted, and what it wrote over is counted from its
-   return address down. Every file that is named is read, copied and listed, and its events are given to the opened state one by one.
-   The arguments that the caller puts on the stack are counted apart. */
+   return address down. Every file that is named is read, copied and listed, its listing is checked, and its events are given to the
+   opened state one by one. The arguments that the caller puts on the stack are counted apart. */
 #define _GNU_SOURCE
 #include "../tests/thawonlai.h"
 #include <pthread.h>
@@ -10,11 +10,11 @@
 #include <sys/mman.h>
 
 enum { STACK = 1 << 20, PAINT = 0xa5, LONGEST = 65536 };
-enum { EVENT, OPEN, SOUND, READ, COPY, LISTING, FUNCTIONS };
+enum { EVENT, OPEN, SOUND, READ, COPY, LISTING, CHECK, FUNCTIONS };
 static const char *const names[] = { "thawonlai_event", "thawonlai_open", "thawonlai_sound", "thawonlai_read", "thawonlai_copy",
-                                     "thawonlai_listing" };
+                                     "thawonlai_listing", "thawonlai_check" };
 /* by value, and too large for registers; a struct of up to 16 bytes goes in registers */
-static const size_t arguments[] = { sizeof(struct event), sizeof(struct table), sizeof(struct state), 0, 0, 0 };
+static const size_t arguments[] = { sizeof(struct event), sizeof(struct table), sizeof(struct state), 0, 0, 0, 0 };
 
 /* `at_F` notes where the stack stands as F is entered, and goes on to F. */
 char *entered;
@@ -27,6 +27,7 @@ AT(thawonlai_sound)
 AT(thawonlai_read)
 AT(thawonlai_copy)
 AT(thawonlai_listing)
+AT(thawonlai_check)
 
 static uint8_t file[LONGEST], out[LONGEST];
 static size_t length;
@@ -37,6 +38,7 @@ static uint64_t start;
 static uint32_t n;
 static struct answer opened;
 static struct found found;
+static struct listed listed;
 
 static void *call(void *which) {
     switch ((int)(intptr_t)which) {
@@ -45,7 +47,8 @@ static void *call(void *which) {
     case SOUND: at_thawonlai_sound(state); break;
     case READ: found = at_thawonlai_read(file, length); break;
     case COPY: at_thawonlai_copy(file, length, out, LONGEST); break;
-    default: at_thawonlai_listing(file, length, out, LONGEST);
+    case LISTING: listed = at_thawonlai_listing(file, length, out, LONGEST); break;
+    default: at_thawonlai_check(file, length, out, listed.length);
     }
     return NULL;
 }
@@ -77,7 +80,7 @@ int main(int count, char **words) {
         if (!f) { perror(words[k]); return 2; }
         length = fread(file, 1, LONGEST, f);
         fclose(f);
-        for (int which = READ; which <= LISTING; which++) measure(which);
+        for (int which = READ; which <= CHECK; which++) measure(which);
         if (found.status) continue;
         memset(&table, 0, sizeof table);
         n = found.n, start = found.start;

@@ -1,5 +1,5 @@
-/* What the static libraries export, for C: the functions of crates/board, crates/board_trace and crates/board_text, and the structs that they name. A slice
-   is a pointer and then a length. */
+/* What the static libraries export, for C: the functions of crates/board, board_trace, board_text and board_check, and the structs that
+   they name. A slice is a pointer and then a length. */
 #ifndef THAWONLAI_H
 #define THAWONLAI_H
 #include <stddef.h>
@@ -29,6 +29,7 @@ struct found { uint8_t status; uint32_t n; uint64_t start; size_t count; };
 struct written { uint8_t status; size_t total; };
 struct listed { uint8_t status; size_t length; };
 struct made { uint8_t status; size_t line, total; };
+struct checked { uint8_t verdict, status; size_t line; };
 
 struct reply thawonlai_event(struct state *state, struct event e);
 struct answer thawonlai_open(uint64_t start, uint32_t n, struct table table);
@@ -39,4 +40,5 @@ struct written thawonlai_copy(const uint8_t *file, size_t length, uint8_t *out, 
 struct listed thawonlai_listing(const uint8_t *file, size_t length, uint8_t *out, size_t room);
 struct made thawonlai_from_text(const uint8_t *text, size_t length, uint8_t *out, size_t room);
 struct made thawonlai_to_text(const uint8_t *file, size_t length, uint8_t *out, size_t room);
+struct checked thawonlai_check(const uint8_t *file, size_t length, const uint8_t *theirs, size_t their_length);
 #endif

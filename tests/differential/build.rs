@@ -1,11 +1,11 @@
-// Links the static libraries of the repository, which `rt staticlib board` and `rt staticlib board_trace` write.
+// Links the static libraries of the repository, each written by `rt staticlib NAME`.
 use std::path::Path;
 
 fn main() {
     let here = std::env::var("CARGO_MANIFEST_DIR").expect("cargo names the package's folder");
     let folder = Path::new(&here).join("../../target/staticlib");
     println!("cargo:rustc-link-search=native={}", folder.display());
-    for name in ["board", "board_trace"] {
+    for name in ["board", "board_trace", "board_check"] {
         let archive = folder.join(format!("lib{name}.a"));
         if !archive.exists() {
             panic!(

@@ -45,7 +45,7 @@ const SORTS: &[Sort] = &[
     // texts made files and files written as text
     // sort("texts", 30_000, texts::texts),
     // another kernel's listings
-    // sort("checks", 30_000, checks::checks),
+    sort("checks", 30_000, checks::checks),
     // the step between a file's events, in every field of the state
     // sort("replays", 2_500, replays::replays),
 ];
