@@ -1,11 +1,13 @@
 //! Replays the same events through the proved code and through the plain program beside this one
 //! (`plain`), both in place and both with the test of soundness that an event begins with, and
-//! prints nanoseconds and instructions for an event and for a moment.
+//! prints nanoseconds and instructions for an event and for a moment. Then the same for a text that
+//! is made a trace file, by the code, by plain Rust and by the model.
 //!
 //! `bench`: times. `bench --once`: each measurement once, for callgrind, which counts inside
 //! `bench_measured`. `bench --instructions FILE`: times, and the counts of that run, one to a line.
 
 mod given;
+mod text;
 
 use differential as board;
 use plain::random::Random;
@@ -32,6 +34,8 @@ enum What {
     Readings,
     /// the test of soundness alone
     Soundness,
+    /// a text made a trace file; no column of its own
+    Text,
 }
 
 const WHATS: [What; 4] = [What::Events, What::Moments, What::Readings, What::Soundness];
@@ -173,6 +177,33 @@ fn moments_until(s: &State, time: u64) -> u64 {
     }
 }
 
+/// A text of 32 threads and as many events of all kinds as a file holds.
+fn text() -> String {
+    let mut text = "start 1000000\n".to_owned();
+    for i in 0..THREADS {
+        text += &format!(
+            "thread 2 {} 5 {} 1 {} 4000\n",
+            6 + i % 20,
+            1 + i % 8,
+            10 + i
+        );
+    }
+    let mut r = Random::new(7);
+    let mut time = 1_000_000;
+    for k in 0..plain::MAX_EVENTS {
+        time += r.below(2_000);
+        let i = r.below(THREADS as u64);
+        text += &match k as u8 % 5 {
+            CLOCK => format!("clock {time}\n"),
+            BLOCK => format!("block {time}\n"),
+            YIELD => format!("yield {time}\n"),
+            WAKE => format!("wake {time} {i}\n"),
+            _ => format!("set {time} {i} 2 20 5 4 {} 4000\n", 10 + i),
+        };
+    }
+    text
+}
+
 /// A measurement's input for both sides.
 struct Case {
     what: What,
@@ -181,9 +212,54 @@ struct Case {
     events: Vec<Event>,
     records: Vec<board::Event>,
     moments: u64,
+    text: Vec<u8>,
+}
+
+/// Who does it. The model makes files of texts only.
+#[repr(C)]
+#[derive(Clone, Copy, PartialEq)]
+enum Side {
+    Code,
+    Plain,
+    Model,
+}
+
+const SIDES: [Side; 3] = [Side::Code, Side::Plain, Side::Model];
+
+/// What a measurement changes: the state of each side, and the file that a text is made.
+struct Lent {
+    s: State,
+    t: board::State,
+    out: Vec<u8>,
 }
 
 impl Case {
+    fn text() -> Case {
+        let (_, state) = plain::open(0, 0, &[Parameters::default(); THREADS]);
+        Case {
+            what: What::Text,
+            state,
+            given: given::state(&state),
+            events: Vec::new(),
+            records: Vec::new(),
+            moments: 0,
+            text: text().into_bytes(),
+        }
+    }
+
+    fn lent(&self) -> Lent {
+        let room = plain::total_bytes(THREADS, plain::MAX_EVENTS);
+        Lent {
+            s: self.state,
+            t: self.given,
+            out: if self.what == What::Text {
+                vec![0; room]
+            } else {
+                Vec::new()
+            },
+        }
+    }
+
     fn new(state: &State, what: What, size: &Size) -> Case {
         let (events, moments) = script(state, what, size);
         Case {
@@ -193,6 +269,7 @@ impl Case {
             records: events.iter().map(given::event).collect(),
             events,
             moments,
+            text: Vec::new(),
         }
     }
 }
@@ -200,8 +277,18 @@ impl Case {
 /// One replay by one side. Its own function, so that callgrind can count inside it.
 #[inline(never)]
 #[no_mangle]
-extern "C" fn bench_measured(case: &Case, code: bool, s: &mut State, t: &mut board::State) {
-    match (case.what, code) {
+extern "C" fn bench_measured(case: &Case, side: Side, lent: &mut Lent) {
+    let Lent { s, t, out } = lent;
+    match (case.what, side == Side::Code) {
+        (What::Text, true) => {
+            black_box(board::from_text(&case.text, out));
+        }
+        (What::Text, false) if side == Side::Model => {
+            black_box(model::from_text(&case.text, out));
+        }
+        (What::Text, false) => {
+            black_box(text::from_text(&case.text, out));
+        }
         (What::Soundness, true) => {
             for _ in &case.records {
                 black_box(board::sound(black_box(t)));
@@ -226,21 +313,30 @@ extern "C" fn bench_measured(case: &Case, code: bool, s: &mut State, t: &mut boa
 }
 
 /// Nanoseconds of one replay.
-fn replay(case: &Case, code: bool) -> f64 {
-    let (mut s, mut t) = (case.state, case.given);
+fn replay(case: &Case, side: Side) -> f64 {
+    let mut lent = case.lent();
     let start = Instant::now();
-    bench_measured(case, code, &mut s, &mut t);
+    bench_measured(case, side, &mut lent);
     let ns = start.elapsed().as_nanos() as f64;
-    black_box((s, t));
+    black_box(lent);
     ns
 }
 
 /// Both ends must agree.
 fn agree(case: &Case) {
-    let (mut s, mut t) = (case.state, case.given);
-    bench_measured(case, false, &mut s, &mut t);
-    bench_measured(case, true, &mut s, &mut t);
-    assert!(given::state(&s) == t, "the two ended in different states");
+    let mut lent = case.lent();
+    bench_measured(case, Side::Plain, &mut lent);
+    let file = std::mem::replace(&mut lent.out, case.lent().out);
+    bench_measured(case, Side::Code, &mut lent);
+    assert!(
+        given::state(&lent.s) == lent.t,
+        "the two ended in different states"
+    );
+    assert!(file == lent.out, "the two made different files");
+    assert!(
+        case.what != What::Text || plain::read(&file).is_ok(),
+        "the text is refused"
+    );
 }
 
 /// What a row shows: for an event of all kinds, for a moment, a reading and the test alone.
@@ -288,9 +384,12 @@ fn main() {
         ["--once"] => {
             for x in settings() {
                 for case in &cases(x, &COUNTED) {
-                    replay(case, true);
-                    replay(case, false);
+                    replay(case, Side::Code);
+                    replay(case, Side::Plain);
                 }
+            }
+            for side in SIDES {
+                replay(&Case::text(), side);
             }
             return;
         }
@@ -305,15 +404,21 @@ fn main() {
     };
     // Rounds outermost, so that a busy spell of the machine falls on all measurements alike.
     let rows: Vec<Vec<Case>> = settings().into_iter().map(|x| cases(x, &TIMED)).collect();
+    let text = Case::text();
     rows.iter().flatten().for_each(agree);
+    agree(&text);
+    let mut text_times = [Vec::new(), Vec::new(), Vec::new()];
     let mut times: Vec<[[Vec<f64>; 4]; 2]> = rows.iter().map(|_| Default::default()).collect();
     for _ in 0..TIMED.runs {
         for (row, timed) in rows.iter().enumerate() {
             for (k, case) in timed.iter().enumerate() {
                 for side in 0..2 {
-                    times[row][side][k].push(replay(case, side == 0));
+                    times[row][side][k].push(replay(case, SIDES[side]));
                 }
             }
+        }
+        for (side, times) in text_times.iter_mut().enumerate() {
+            times.push(replay(&text, SIDES[side]));
         }
     }
     let mut noise: f64 = 0.0;
@@ -354,10 +459,16 @@ fn main() {
             tables[1].push((name, mix, side(0), side(1)));
         }
     }
-    for (unit, table) in ["nanoseconds", "instructions"].iter().zip(&tables) {
-        if table.is_empty() {
+    let best = |times: &Vec<f64>| times.iter().copied().fold(f64::INFINITY, f64::min);
+    let of_text = [
+        Some(text_times.each_ref().map(best)),
+        counts.map(|counts| [3, 2, 1].map(|k| counts[counts.len() - k])),
+    ];
+    let units = ["nanoseconds", "instructions"];
+    for (unit, (table, of_text)) in units.iter().zip(tables.iter().zip(of_text)) {
+        let Some([a, b, c]) = of_text else {
             continue;
-        }
+        };
         println!("{unit}, code / plain Rust = ratio");
         println!(
             " N  pend. quant. | {:^27} | {:^23} | {:^23} | {:^23}",
@@ -379,6 +490,11 @@ fn main() {
                 print!("{}", if k == 3 { "\n" } else { " |" });
             }
         }
+        println!(
+            "a text of 1,500 events made a file: {a:.0} / {b:.0} = {:.2}; by the model {c:.0}, {:.2}",
+            a / b,
+            a / c
+        );
         println!();
     }
     println!(

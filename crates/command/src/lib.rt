@@ -1,6 +1,7 @@
 // What every program that `bin/thawonlai` starts does: it reads the inputs that its arguments name, and says how it ended. A program
 // has no exit status of its own, so it writes one to descriptor 3, and `bin/thawonlai` exits with it.
 ghost use Rattle.io.specs.Counts.{Counts};
+use libc::STDERR_FILENO;
 use libc::STDIN_FILENO;
 
 // The three ends of a command.
@@ -100,4 +101,13 @@ pub fn read_input(i: usize, buffer: &mut [u8]) -> Input
 pub fn end(status: u8) {
     io::print_decimal(STATUS_FILENO, status as u64);
     io::write_all(STATUS_FILENO, b"\n");
+}
+
+// Says on the standard error that an input is refused, and in which of its lines; a refusal that is no line's has line 0.
+pub fn refuse(status: u8, line: usize) {
+    io::write_all(STDERR_FILENO, b"refused ");
+    io::print_decimal(STDERR_FILENO, status as u64);
+    io::write_all(STDERR_FILENO, b" line ");
+    io::print_decimal(STDERR_FILENO, line as u64);
+    io::write_all(STDERR_FILENO, b"\n");
 }

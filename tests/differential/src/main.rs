@@ -43,7 +43,7 @@ const SORTS: &[Sort] = &[
     // files written from any header, table and events
     sort("writes", 10_000, writes::writes),
     // texts made files and files written as text
-    // sort("texts", 30_000, texts::texts),
+    sort("texts", 30_000, texts::texts),
     // another kernel's listings
     sort("checks", 30_000, checks::checks),
     // the step between a file's events, in every field of the state
