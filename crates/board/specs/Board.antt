@@ -3,7 +3,7 @@ use Rattle.executive.specs.declared.Answer.{Answer}
 use Rattle.board.specs.declared.Reply.{Reply}
 use Rattle.board.specs.declared.Done.{Done}
 
--- Events 8: an answer without its state, which is left where it was lent
+-- 01 Events 8: an answer without its state, which is left where it was lent
 abbrev pub replyOf : Answer → Reply
 replyOf a = record { status = a .status; running = a .running; next = a .next }
 

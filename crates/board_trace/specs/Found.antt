@@ -5,7 +5,7 @@ use Rattle.trace_contents.specs.declared.Contents.{Contents}
 use Rattle.trace_contents.specs.Read.{contentsOf}
 use Rattle.board_trace.specs.declared.Found.{Found}
 
--- Trace 6: a read without its table
+-- 01 Trace 6: a read without its table
 abbrev pub foundOf : Contents → Found
 foundOf c = record { status = c .status; n = c .header .n; start = c .header .start; count = c .count }
 

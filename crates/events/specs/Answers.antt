@@ -13,29 +13,29 @@ use Rattle.ticks.specs.Running.{idles, running}
 use Rattle.moments.specs.Moments.{clock}
 use Rattle.events.specs.Effects.{effect}
 
--- Status 5: no such kind
+-- 01 Status 5: no such kind
 abbrev pub badKind : Event → Bool
 badKind e = ltb 4 (e .kind)
 
--- Status 6: a thread number in kinds 0 to 2, which name none, or one that is N or more
+-- 01 Status 6: a thread number in kinds 0 to 2, which name none, or one that is N or more
 abbrev pub badThread : ℕ → Event → Bool
 badThread n e = cond (leb (e .kind) 2) (not (eqb (e .thread) 0)) (leb n (e .thread))
 
--- Status 7: parameters out of range or with a start flag in kind 4, and any at all in another kind
+-- 01 Status 7: parameters out of range or with a start flag in kind 4, and any at all in another kind
 abbrev pub badParameters : Event → Bool
 badParameters e =
     cond (eqb (e .kind) 4)
     (not (inRange mostReplenishments (e .parameters) && eqb (e .parameters .flag) 0))
     (not (allZero (e .parameters)))
 
--- Status 5 to 7 and 15: 4, 5, 6 in this order
+-- 01 Status 5 to 7 and 15: 4, 5, 6 in this order
 unfoldable pub fieldStatusOf : ℕ → Event → ℕ
 fieldStatusOf n e = firstOf (cond (badKind e) 4 0 ∷ cond (badThread n e) 5 0 ∷ cond (badParameters e) 6 0 ∷ [])
 
 abbrev pub fieldStatus : State → Event → ℕ
 fieldStatus s e = fieldStatusOf (s .header .n) e
 
--- Status 8 and 9: block or yield and nothing runs; wake of a thread that isn't blocked
+-- 01 Status 8 and 9: block or yield and nothing runs; wake of a thread that isn't blocked
 unfoldable pub stateStatusOf : ℕ → Bool → Bool → ℕ
 stateStatusOf kind idle blocked =
     firstOf
@@ -46,7 +46,7 @@ stateStatusOf kind idle blocked =
 abbrev pub stateStatus : State → Event → ℕ
 stateStatus s e = stateStatusOf (e .kind) (idles s) (isBlocked (threadAt s (e .thread)))
 
--- Readings 6: an extra clock reading: kind 0, and every other field 0
+-- 01 Readings 6: an extra clock reading: kind 0, and every other field 0
 abbrev pub reading : ℕ → Event
 reading t = record { time = t; kind = 0; thread = 0; parameters = noParameters }
 

@@ -18,7 +18,7 @@ use Rattle.moments.specs.Moments.{clock, passed}
 use Rattle.events.specs.Answers.{executive}
 use Rattle.events.specs.Opening.{opening}
 
--- Readings 1 to 13: extra clock readings before accepted events change no answer and no field of the end state
+-- 01 Readings 1 to 13: extra clock readings before accepted events change no answer and no field of the end state
 abbrev pub ReadingsChangeNothing : Type 0
 ReadingsChangeNothing = ExtraReadings executive
 
@@ -30,7 +30,7 @@ AcceptedIsSound = (s : State) (e : Event) → status executive s e ≡ 0 → sou
 abbrev pub OpeningIsSound : Type 0
 OpeningIsSound = (start n : ℕ) (table : List Parameters) → opening start n table .status ≡ 0 → soundState (opening start n table .state) ≡ true
 
--- State 18: the running thread heads the highest list that has one, and nothing runs where no list has one
+-- 01 State 18: the running thread heads the highest list that has one, and nothing runs where no list has one
 pub record HeadOfHighest (s : State) : Type 0 where
   pub idle : level s ≡ 0 → (running s ≡ 255) × ((p : ℕ) → 1 ≤ p → p ≤ 32 → threads p (s .lists) ≡ [])
   pub busy : (level s ≡ 0 → ⊥) → (running s ≡ headOf (level s) (s .lists)) × (0 < length (threads (level s) (s .lists))) × ((p : ℕ) → level s < p → p ≤ 32 → threads p (s .lists) ≡ [])
@@ -38,19 +38,19 @@ pub record HeadOfHighest (s : State) : Type 0 where
 abbrev pub HeadRuns : Type 0
 HeadRuns = (s : State) → soundState s ≡ true → HeadOfHighest s
 
--- State 16: run times and idle time make up the time since the start
+-- 01 State 16: run times and idle time make up the time since the start
 abbrev pub TimesAddUp : Type 0
 TimesAddUp = (s : State) → soundState s ≡ true → s .header .start + totals (s .threads) + s .idle ≡ s .now
 
--- Passing 2: the next moment of a sound state is after now
+-- 01 Passing 2: the next moment of a sound state is after now
 abbrev pub NextIsLater : Type 0
 NextIsLater = (s : State) → soundState s ≡ true → 0 < next s → s .now < next s
 
--- Passing 1: to b and then to c is to c
+-- 01 Passing 1: to b and then to c is to c
 abbrev pub PassingComposes : Type 0
 PassingComposes = (s : State) (b c : ℕ) → soundState s ≡ true → s .now ≤ b → b ≤ c → c ≤ lastTime → passed (passed s b) c ≡ passed s c
 
--- Passing 1, 3, 5: how a sound state comes to the time t. Where no moment is due by then, the ticks up to it are charged; where one is,
+-- 01 Passing 1, 3, 5: how a sound state comes to the time t. Where no moment is due by then, the ticks up to it are charged; where one is,
 -- that moment comes first and time passes on from there. So the number of moments that `passed` counts down is no limit.
 pub record ByMoments (s : State) (t : ℕ) : Type 0 where
   pub none : dueBy (next s) t ≡ false → passed s t ≡ chargeTo clock s t

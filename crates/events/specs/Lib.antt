@@ -1,4 +1,4 @@
--- What a reader of `executive` must believe.
+-- What a reader of `events` must believe.
 pub mod Effects
 pub mod Answers
 pub mod Opening

@@ -15,7 +15,7 @@ use Rattle.events.specs.Effects.{renewed, newAccount}
 use Rattle.events.specs.Answers.{executive}
 use Rattle.state.specs.Updates.{withLists, withAccount, withBlocked, stateOf}
 
--- Status 20: a state of so many threads, none of them there yet, at the start time
+-- 01 Status 20: a state of so many threads, none of them there yet, at the start time
 abbrev pub emptyState : ℕ → ℕ → State
 emptyState n start =
     stateOf (record { n = n; start = start }) start 0 0 (replicate 32 noThread) (replicate 32 0) (replicate 256 0) (replicate 256 0) (replicate 1056 0)
@@ -24,18 +24,18 @@ emptyState n start =
 abbrev pub withoutFlag : Parameters → Parameters
 withoutFlag p = record { policy = p .policy; priority = p .priority; low = p .low; «max_repl» = p .«max_repl»; flag = 0; budget = p .budget; period = p .period }
 
--- Events 7: thread i is given its parameters as by a set; a runnable one (start flag 1) becomes the tail of its list
+-- 01 Events 7: thread i is given its parameters as by a set; a runnable one (start flag 1) becomes the tail of its list
 abbrev pub entered : ℕ → Parameters → State → State
 entered i p s =
     withLists (cond (eqb (p .flag) 0) (s .lists) (appended (p .priority) i (s .lists)))
     (withAccount i (renewed (withoutFlag p) (withBlocked (cond (eqb (p .flag) 0) 1 0) (threadAt s i))) (newAccount (s .now) (withoutFlag p)) s)
 
--- Events 7: the first n threads of the table, in number order
+-- 01 Events 7: the first n threads of the table, in number order
 unfoldable pub enteredBelow : ℕ → List Parameters → State → State
 enteredBelow zero table s = s
 enteredBelow (suc n) table s = entered n (getD table n noParameters) (enteredBelow n table s)
 
--- Status 6, 4 and 7 at opening, in the order of Status 16: 5, 3, 6
+-- 01 Status 6, 4 and 7 at opening, in the order of 01 Status 16: 5, 3, 6
 unfoldable pub openStatus : ℕ → ℕ → List Parameters → ℕ
 openStatus start n table =
     firstOf
@@ -44,7 +44,7 @@ openStatus start n table =
     ∷ cond (below n (λ i. inRange mostReplenishments (getD table i noParameters) && leb (getD table i noParameters .flag) 1)) 0 6
     ∷ [])
 
--- Events 7, Status 20: the answer to an opening
+-- 01 Events 7, 01 Status 20: the answer to an opening
 unfoldable pub opening : ℕ → ℕ → List Parameters → Answer State
 opening start n table =
     let opened = accepted executive (enteredBelow n table (emptyState n start)) in

@@ -1,4 +1,4 @@
--- The worked table: the replay's seven events and the rows of 01 that are marked to be proved (Replay 1 to 6, Instances 1 to 11).
+-- The worked table: the replay's seven events and the rows of 01 that are marked to be proved (01 Replay 1 to 6, 01 Instances 1 to 11).
 use Prim.Native.Nat.{ℕ, zero, suc, _-_}
 use mathlib.Core.Path.{_≡_}
 use mathlib.Core.Bool.{cond}
@@ -110,7 +110,7 @@ at capacity priority list activation dues amounts total =
 abbrev pub says : ℕ → ℕ → ℕ → List Seen → ℕ → Shown
 says status running next threads idle = record { status = status; running = running; next = next; threads = threads; idle = idle }
 
--- Replay 1 to 3: the threads of the replay
+-- 01 Replay 1 to 3: the threads of the replay
 abbrev pub two : List Parameters
 two = sporadic 1 10 40 2 ∷ fifo 1 10 ∷ []
 
@@ -118,7 +118,7 @@ two = sporadic 1 10 40 2 ∷ fifo 1 10 ∷ []
 abbrev pub other : ℕ → ℕ → ℕ → Seen
 other priority list total = at 0 priority list 0 [] [] total
 
--- Replay 4 to 6: one entry for each of the seven events
+-- 01 Replay 4 to 6: one entry for each of the seven events
 abbrev pub replay : List Entry
 replay =
     record { table = two; events = clockAt 4 ∷ []; last = says 0 0 10 (at 6 20 20 0 [] [] 4 ∷ other 10 10 0 ∷ []) 0 ∷ [] }
@@ -154,18 +154,18 @@ replay =
     }
     ∷ []
 
--- Instances 3 to 11
+-- 01 Instances 3 to 11
 abbrev pub instances : List Entry
 instances =
-    -- Instances 3 to 5: one replenishment at a time: low at the wake, and upper again when it has come back
+    -- 01 Instances 3 to 5: one replenishment at a time: low at the wake, and upper again when it has come back
     record {
       table = sporadic 1 10 40 1 ∷ [];
       events = blockAt 3 ∷ wakeAt 5 0 ∷ clockAt 40 ∷ [];
       last = says 0 0 40 (at 7 5 5 0 (40 ∷ []) (3 ∷ []) 3 ∷ []) 2 ∷ says 0 0 50 (at 10 20 20 40 [] [] 38 ∷ []) 2 ∷ [];
     }
-    -- Instances 6 and 7: the budget is the period, so it comes back at its limit
+    -- 01 Instances 6 and 7: the budget is the period, so it comes back at its limit
     ∷ record { table = sporadic 1 10 10 2 ∷ []; events = clockAt 10 ∷ []; last = says 0 0 20 (at 10 20 20 10 [] [] 10 ∷ []) 0 ∷ [] }
-    -- Instances 8 and 9: preempted from 4 to 20 by a thread that wakes and blocks; at 20 the limit is still 6 ticks away
+    -- 01 Instances 8 and 9: preempted from 4 to 20 by a thread that wakes and blocks; at 20 the limit is still 6 ticks away
     ∷ record {
       table = sporadic 1 10 12 2 ∷ fifo 0 30 ∷ [];
       events = wakeAt 4 1 ∷ blockAt 20 ∷ clockAt 26 ∷ [];
@@ -174,13 +174,13 @@ instances =
           ∷ says 0 0 36 (at 10 20 20 26 [] [] 10 ∷ other 30 0 16 ∷ []) 0
           ∷ [];
     }
-    -- Instances 10: a wake and a block at one time schedule nothing
+    -- 01 Instances 10: a wake and a block at one time schedule nothing
     ∷ record {
       table = sporadic 0 10 40 2 ∷ [];
       events = wakeAt 7 0 ∷ blockAt 7 ∷ [];
       last = says 0 255 0 (at 10 20 0 7 [] [] 0 ∷ []) 7 ∷ [];
     }
-    -- Instances 11: an RR thread alone runs on with a full quantum
+    -- 01 Instances 11: an RR thread alone runs on with a full quantum
     ∷ record {
       table = record { policy = 1; priority = 10; low = 0; «max_repl» = 0; flag = 1; budget = 5; period = 0 } ∷ [];
       events = clockAt 5 ∷ [];
@@ -188,6 +188,6 @@ instances =
     }
     ∷ []
 
--- Replay 1 to 6, Instances 3 to 11: the 12 entries are answered so
+-- 01 Replay 1 to 6, 01 Instances 3 to 11: the 12 entries are answered so
 abbrev pub TableHolds : Type 0
 TableHolds = Holds (replay ++ instances)

@@ -14,30 +14,30 @@ use Rattle.events.specs.Answers.{fieldStatusOf, executive}
 use Rattle.events.specs.Opening.{opening}
 use Rattle.executive.specs.declared.Answer.{Answer}
 
--- Events 8: status, running thread, next moment, state
+-- 01 Events 8: status, running thread, next moment, state
 abbrev pub returned : sequence.Answer State → Answer
 returned a = record { status = a .status; running = a .running; next = a .next; state = a .state }
 
--- Events 1 and 8: the answer to an event
+-- 01 Events 1 and 8: the answer to an event
 abbrev pub eventAnswer : State → Event → Answer
 eventAnswer s e = returned (answer executive s e)
 
--- Events 7: the answer to an opening
+-- 01 Events 7: the answer to an opening
 abbrev pub openAnswer : ℕ → ℕ → List Parameters → Answer
 openAnswer start n table = returned (opening start n table)
 
--- Status 19: the answer that leaves a sound state, with who runs there and its next moment
+-- 01 Status 19: the answer that leaves a sound state, with who runs there and its next moment
 abbrev pub answered : ℕ → State → Answer
 answered status s = record { status = status; running = running s; next = next s; state = s }
 
--- Status 19 and 20: the answer that leaves a state of which nothing is read
+-- 01 Status 19 and 20: the answer that names no running thread and no next moment: for 9, and of a refused opening
 abbrev pub unread : ℕ → State → Answer
 unread status s = record { status = status; running = 255; next = 0; state = s }
 
--- Status 2 to 4 and 15: by the time, 3, 1 or 2
+-- 01 Status 2 to 4 and 15: by the time, 3, 1 or 2
 unfoldable pub timeStatus : ℕ → ℕ → ℕ
 timeStatus now time = firstOf (cond (ltb lastTime time) 3 0 ∷ cond (ltb time now) 1 0 ∷ cond (ltb (now + longestStep) time) 2 0 ∷ [])
 
--- Status 15: what is judged before time passes: 4, 5 or 6 by the fields, then by the time
+-- 01 Status 15: what is judged without the state: 4, 5 or 6 by the fields, then by the time
 abbrev pub earlyStatus : ℕ → ℕ → Event → ℕ
 earlyStatus n now e = firstOf (fieldStatusOf n e ∷ timeStatus now (e .time) ∷ [])

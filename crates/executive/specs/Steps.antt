@@ -17,11 +17,11 @@ use Rattle.executive.specs.declared.effects.Change.{Change}
 use Rattle.executive.specs.Answer.{earlyStatus}
 use Rattle.state.specs.Updates.{withBlocked}
 
--- Status 15: the status of an event for a sound state; `blocked`: whether the thread it names is
+-- 01 Status 15: the status of an event for a sound state; `blocked`: whether the thread it names is
 abbrev pub soundStatus : ℕ → ℕ → ℕ → Bool → Event → ℕ
 soundStatus n now word blocked e = firstOf (earlyStatus n now e ∷ stateStatusOf (e .kind) (eqb (highestOf word) 0) blocked ∷ [])
 
--- Events 3 to 6: the thread that an event concerns and its account, and the lists that it leaves and joins, 0 for none
+-- 01 Events 3 to 6: the thread that an event concerns and its account, and the lists that it leaves and joins, 0 for none
 unfoldable pub changeOf : Event → Thread → Account → Change
 changeOf e t a =
     byKind (e .kind)

@@ -29,7 +29,7 @@ pub(super) fn answer_of(status: u8, s: State) -> Answer
     }
 }
 
-// The answer that leaves a state of which nothing is read: no thread runs, and there is no next moment.
+// The answer that names no running thread and no next moment: of a refused opening.
 pub(super) fn nothing_runs(status: u8, s: State) -> Answer
     ensures { λ r. ⌜ r ≡ unread status s ⌝ }
 {
@@ -57,7 +57,7 @@ fn time_status(now: u64, time: u64) -> u8
     0
 }
 
-// 4, 5, 6, 3, 1 or 2: what is judged before time passes, else 0.
+// 4, 5, 6, 3, 1 or 2 by the event's fields and its time, else 0.
 pub(super) fn early_status(n: u32, now: u64, e: Event) -> u8
     ensures { λ r. ⌜ r ≡ earlyStatus n now e ⌝ }
 {

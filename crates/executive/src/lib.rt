@@ -167,7 +167,7 @@ pub fn step(s: State, e: Event) -> Answer
     run(s, e, true)
 }
 
-// An event for any state: one that is not sound is refused with 9, and nothing of it is read.
+// An event for any state: one that is not sound is refused with 9 and comes back as it was.
 pub fn event(s: State, e: Event) -> Answer
     ensures { λ r. ⌜ r ≡ eventAnswer s e ⌝ }
 {

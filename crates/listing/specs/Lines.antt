@@ -1,4 +1,4 @@
--- The lines of a listing as bytes. Numbers are in decimal without leading zeros; a line ends in one newline (Replay 7).
+-- The lines of a listing as bytes. Numbers are in decimal without leading zeros; a line ends in one newline (01 Replay 7).
 use Prim.Native.Nat.{ℕ, suc}
 use mathlib.Core.List.{List, [], _∷_, _++_}
 use lib.ListN.{getD}
@@ -27,7 +27,7 @@ headerLine =
 unfoldable pub eventLine : ℕ → ℕ → ℕ → ℕ → List ℕ
 eventLine i status running next = row i status running next
 
--- Replay 5: the line of thread i: `thread`, its number, capacity, pending count and total
+-- 01 Replay 5: the line of thread i: `thread`, its number, capacity, pending count and total
 unfoldable pub threadLine : ℕ → ℕ → ℕ → ℕ → List ℕ
 threadLine i capacity count total = threadWord ++ row i capacity count total
 
@@ -35,7 +35,7 @@ threadLine i capacity count total = threadWord ++ row i capacity count total
 unfoldable pub idleLine : ℕ → List ℕ
 idleLine idle = labelled idleWord idle
 
--- Replay 8: the only line of a file that can't be replayed: `refused` and the number
+-- 01 Replay 8: the only line of a file that can't be replayed: `refused` and the number
 unfoldable pub refusedLine : ℕ → List ℕ
 refusedLine n = labelled refusedWord n
 

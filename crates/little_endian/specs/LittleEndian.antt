@@ -7,12 +7,12 @@ use lib.ListN.{take, drop, getD}
 abbrev pub Bytes : List ℕ → Type 0
 Bytes s = (i : ℕ) → getD s i 0 < 256
 
--- Trace 1: the k lowest bytes of n, the lowest first
+-- 01 Trace 1: the k lowest bytes of n, the lowest first
 unfoldable pub bytesOf : ℕ → ℕ → List ℕ
 bytesOf zero n = []
 bytesOf (suc k) n = (n % 256) ∷ bytesOf k (n / 256)
 
--- Trace 1: the number whose bytes these are, the lowest first
+-- 01 Trace 1: the number whose bytes these are, the lowest first
 unfoldable pub numberOf : List ℕ → ℕ
 numberOf [] = 0
 numberOf (b ∷ bs) = numberOf bs * 256 + b

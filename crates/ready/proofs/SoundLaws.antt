@@ -337,7 +337,7 @@ module _ (place : ℕ → ℕ) (word : ℕ) (l : List ℕ) (h : ListsSound place
           let lo : 1 ≤ place i = omega (arith, d) in
           absurd (absent (place i) lo (h .rows .places i m) (g .empty (place i) (omega arith) (h .rows .places i m)) i m refl)
 
-  -- State 4 and 18: elsewhere the highest list is found from the word's leading zeros, and its head stands where it must
+  -- 01 State 4 and 18: elsewhere the highest list is found from the word's leading zeros, and its head stands where it must
   pub highest-sound : (word ≡ 0 → ⊥) → HighestSound place l (highestOf word)
   highest-sound d =
       let e : highestOf word ≡ highestList 32 (sizeAt l) = ap highestOf (h .agrees) ∙ highest-leading l in

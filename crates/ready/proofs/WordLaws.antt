@@ -115,7 +115,7 @@ top (suc n) f = go (eqb (f (suc n)) 0) (top n f)
         let w = word-lt n f in
         record { above = omega (arith, pow-suc 2 n); within = omega (arith, pow-suc 2 n); range = omega arith }
 
--- State 4: the highest list is found from the word's leading zeros
+-- 01 State 4: the highest list is found from the word's leading zeros
 pub highest-leading : (l : List ℕ) → highestOf (occupancy l) ≡ highestList 32 (sizeAt l)
 unfolding occupancy
 highest-leading l =

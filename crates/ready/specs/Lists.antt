@@ -1,4 +1,4 @@
--- State 3: for each priority 1 to 32 an ordered list of thread numbers, head first.
+-- 01 State 3: for each priority 1 to 32 an ordered list of thread numbers, head first.
 -- All lists stand in one array of 32 rows of 33 numbers: a list's length, its threads in order, and zeros.
 use mathlib.Core.List.{List, [], _∷_, _++_}
 use mathlib.Core.Bool.{cond}
@@ -24,11 +24,11 @@ members row = take (size row) (drop 1 row)
 abbrev pub unused : List ℕ → List ℕ
 unused row = drop (size row) (drop 1 row)
 
--- the row that holds a list; State 17: places that are not in use hold 0
+-- the row that holds a list; 01 State 17: places that are not in use hold 0
 abbrev pub rowOf : List ℕ → List ℕ
 rowOf xs = length xs ∷ (xs ++ replicate (32 - length xs) 0)
 
--- State 3: the threads of list p, in order
+-- 01 State 3: the threads of list p, in order
 abbrev pub threads : ℕ → List ℕ → List ℕ
 threads p l = members (rowAt p l)
 

@@ -1,4 +1,4 @@
--- State 4: the occupancy word, and the highest list that holds a thread.
+-- 01 State 4: the occupancy word, and the highest list that holds a thread.
 use mathlib.Core.List.{List}
 use mathlib.Core.Bool.{cond}
 use mathlib.Core.Path.{_≡_}
@@ -7,7 +7,7 @@ use lib.Count.{leadingZeros}
 use lib.Dec.{eqb}
 use Rattle.ready.specs.Lists.{rowAt, size}
 
--- State 4: of the lists 1 to n, whose lengths are given: bit p - 1 for each list p that holds a thread
+-- 01 State 4: of the lists 1 to n, whose lengths are given: bit p - 1 for each list p that holds a thread
 unfoldable pub wordOf : ℕ → (ℕ → ℕ) → ℕ
 wordOf zero sizes = 0
 wordOf (suc k) sizes = wordOf k sizes + cond (eqb (sizes (suc k)) 0) 0 (2 ^ k)
@@ -20,11 +20,11 @@ sizeAt l p = size (rowAt p l)
 unfoldable pub occupancy : List ℕ → ℕ
 occupancy l = wordOf 32 (sizeAt l)
 
--- State 4: bit p - 1 of the word is set exactly when list p holds a thread
+-- 01 State 4: bit p - 1 of the word is set exactly when list p holds a thread
 abbrev pub BitsAreLists : Type 0
 BitsAreLists = (l : List ℕ) (p : ℕ) → 1 ≤ p → p ≤ 32 → occupancy l / 2 ^ (p - 1) % 2 ≡ cond (eqb (sizeAt l p) 0) 0 1
 
--- State 4: the highest list as the word's leading zeros give it
+-- 01 State 4: the highest list as the word's leading zeros give it
 abbrev pub highestOf : ℕ → ℕ
 highestOf word = 32 - leadingZeros 32 word
 

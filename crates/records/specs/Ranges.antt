@@ -6,35 +6,35 @@ use lib.Dec.{ltb, leb, eqb}
 use Rattle.records.specs.declared.Parameters.{Parameters}
 use Rattle.records.specs.Tests.{all, byPolicy}
 
--- Numbers 1: at most 32 threads; thread numbers start at 0
+-- 01 Numbers 1: at most 32 threads; thread numbers start at 0
 abbrev pub mostThreads : ℕ
 mostThreads = 32
 
--- Numbers 2: priorities are 1 to 32, and 32 is the highest
+-- 01 Numbers 2: priorities are 1 to 32, and 32 is the highest
 abbrev pub highestPriority : ℕ
 highestPriority = 32
 
--- Numbers 3: the longest period, budget or quantum, in ticks
+-- 01 Numbers 3: the longest period, budget or quantum, in ticks
 abbrev pub mostTicks : ℕ
 mostTicks = 1000000000
 
--- Numbers 4: the largest max_repl
+-- 01 Numbers 4: the largest max_repl
 abbrev pub mostReplenishments : ℕ
 mostReplenishments = 8
 
--- Numbers 5: the last time, 10^15
+-- 01 Numbers 5: the last time, 10^15
 abbrev pub lastTime : ℕ
 lastTime = 1000000000000000
 
--- Numbers 6: how far an accepted event may be after the time now
+-- 01 Numbers 6: how far an accepted event may be after the time now
 abbrev pub longestStep : ℕ
 longestStep = 1000000
 
--- Numbers 10: SCHED_FIFO uses no parameter but the priority
+-- 01 Numbers 10: SCHED_FIFO uses no parameter but the priority
 unfoldable pub fifoInRange : Parameters → Bool
 fifoInRange p = all (eqb (p .low) 0 ∷ eqb (p .«max_repl») 0 ∷ eqb (p .budget) 0 ∷ eqb (p .period) 0 ∷ [])
 
--- Numbers 9 and 10: SCHED_RR has a quantum, kept in the field `budget`
+-- 01 Numbers 9 and 10: SCHED_RR has a quantum, kept in the field `budget`
 unfoldable pub rrInRange : Parameters → Bool
 rrInRange p =
     all
@@ -45,7 +45,7 @@ rrInRange p =
     ∷ eqb (p .period) 0
     ∷ [])
 
--- Numbers 8: SCHED_SPORADIC has low below priority, max_repl up to `most`, and a budget of at most the period
+-- 01 Numbers 8: SCHED_SPORADIC has low below priority, max_repl up to `most`, and a budget of at most the period
 unfoldable pub sporadicInRange : ℕ → Parameters → Bool
 sporadicInRange most p =
     all
@@ -58,7 +58,7 @@ sporadicInRange most p =
     ∷ leb (p .period) mostTicks
     ∷ [])
 
--- Status 7: parameters in range. The start flag has its own test where it is judged.
+-- 01 Status 7: parameters in range. The start flag has its own test where it is judged.
 unfoldable pub inRange : ℕ → Parameters → Bool
 inRange most p =
     all
@@ -68,10 +68,10 @@ inRange most p =
     ∷ byPolicy (p .policy) (fifoInRange p) (rrInRange p) (sporadicInRange most p)
     ∷ [])
 
--- Status 7: no parameter other than 0, the start flag included
+-- 01 Status 7: no parameter other than 0, the start flag included
 unfoldable pub allZero : Parameters → Bool
 allZero p = all (eqb (p .policy) 0 ∷ eqb (p .priority) 0 ∷ eqb (p .flag) 0 ∷ fifoInRange p ∷ [])
 
--- State 17: parameters of zeros, what stands past the last thread of a table
+-- 01 State 17: parameters of zeros, what stands past the last thread of a table
 abbrev pub noParameters : Parameters
 noParameters = record { policy = 0; priority = 0; low = 0; «max_repl» = 0; flag = 0; budget = 0; period = 0 }

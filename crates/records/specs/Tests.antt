@@ -14,7 +14,7 @@ unfoldable pub below : ℕ → (ℕ → Bool) → Bool
 below zero f = true
 below (suc n) f = cond (below n f) (f n) false
 
--- State 17: places that are not in use hold 0
+-- 01 State 17: places that are not in use hold 0
 abbrev pub zeros : List ℕ → List Bool
 zeros [] = []
 zeros (x ∷ xs) = eqb x 0 ∷ zeros xs

@@ -1,2 +1,2 @@
--- Laws of the places.
+-- Laws of the slots.
 pub mod RowLaws

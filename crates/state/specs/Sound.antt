@@ -1,4 +1,4 @@
--- When a state is sound (State 5 to 17), as tests that compute.
+-- When a state is sound (01 State 5 to 17), as tests that compute.
 use Prim.Native.Nat.{ℕ, _+_}
 use mathlib.Core.Bool.{Bool, cond}
 use mathlib.Core.List.{List, [], _∷_}
@@ -14,12 +14,12 @@ use Rattle.state.specs.declared.Thread.{Thread}
 use Rattle.state.specs.declared.State.{State}
 use Rattle.state.specs.State.{isBlocked, threadAt, pendingAt, place}
 
--- State 17: a thread that is not sporadic has no account
+-- 01 State 17: a thread that is not sporadic has no account
 abbrev pub noAccountTests : Server → Pending → List Bool
 noAccountTests s q =
     eqb (s .capacity) 0 ∷ eqb (s .used) 0 ∷ eqb (s .activation) 0 ∷ eqb (q .count) 0 ∷ all (zeros (q .dues)) ∷ all (zeros (q .amounts)) ∷ []
 
--- State 15 and 17: the quantum left is 1 to quantum for RR, and 0 for any other
+-- 01 State 15 and 17: the quantum left is 1 to quantum for RR, and 0 for any other
 abbrev pub leftTests : Thread → List Bool
 leftTests t =
     byPolicy (t .parameters .policy)
@@ -27,7 +27,7 @@ leftTests t =
     (leb 1 (t .left) ∷ leb (t .left) (t .parameters .budget) ∷ [])
     (eqb (t .left) 0 ∷ [])
 
--- State 10 to 14, 17: a sporadic thread's account is sound, and any other has none
+-- 01 State 10 to 14, 17: a sporadic thread's account is sound, and any other has none
 abbrev pub accountTest : ℕ → ℕ → Thread → Pending → Bool
 accountTest start now t q =
     byPolicy (t .parameters .policy)
@@ -35,7 +35,7 @@ accountTest start now t q =
     (all (noAccountTests (t .server) q))
     (soundAt start now (isBlocked t) (t .parameters) (record { server = t .server; pending = q }))
 
--- State 2, 6, 10 to 15, 17: a thread below N; it is blocked (1) or runnable (0)
+-- 01 State 2, 6, 10 to 15, 17: a thread below N; it is blocked (1) or runnable (0)
 unfoldable pub presentTest : ℕ → ℕ → Thread → Pending → Bool
 presentTest start now t q =
     all
@@ -46,7 +46,7 @@ presentTest start now t q =
     ∷ accountTest start now t q
     ∷ [])
 
--- State 17: a place from N on holds nothing
+-- 01 State 17: a place from N on holds nothing
 unfoldable pub absentTest : Thread → Pending → Bool
 absentTest t q =
     all
@@ -58,12 +58,12 @@ threadTest s i =
     (presentTest (s .header .start) (s .now) (threadAt s i) (pendingAt s i))
     (absentTest (threadAt s i) (pendingAt s i))
 
--- State 16: the sum of all run times
+-- 01 State 16: the sum of all run times
 abbrev pub totals : List Thread → ℕ
 totals [] = 0
 totals (t ∷ ts) = t .total + totals ts
 
--- State 6 to 8, 16: N, the times, every thread, the lists and the word, and the run times.
+-- 01 State 6 to 8, 16: N, the times, every thread, the lists and the word, and the run times.
 -- The arrays have the lengths that their types say.
 abbrev pub soundTests : State → List Bool
 soundTests s =
@@ -80,6 +80,6 @@ soundTests s =
     ∷ eqb (s .header .start + totals (s .threads) + s .idle) (s .now)
     ∷ []
 
--- State 5: a state is sound
+-- 01 State 5: a state is sound
 unfoldable pub soundState : State → Bool
 soundState s = all (soundTests s)

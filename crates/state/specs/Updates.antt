@@ -61,7 +61,7 @@ withThread i t s = withAllThreads (set (s .threads) i t) s
 abbrev pub withEntries : List ℕ → List ℕ → List ℕ → State → State
 withEntries counts dues amounts s = stateOf (s .header) (s .now) (s .idle) (s .word) (s .threads) counts dues amounts (s .lists)
 
--- State 8: the word follows the lists
+-- 01 State 8: the word follows the lists
 abbrev pub withLists : List ℕ → State → State
 withLists l s = stateOf (s .header) (s .now) (s .idle) (occupancy l) (s .threads) (s .counts) (s .dues) (s .amounts) l
 
