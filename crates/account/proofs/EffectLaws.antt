@@ -5,7 +5,7 @@ use mathlib.Core.Path.{_≡_, refl, sym}
 use lib.Dec.{leb, eqb}
 use native.Mathlib.Omega.{arith}
 use borrow.Author.Tests.{eqb-true, eqb-false, leb-true, leb-false, lt-ltb}
-use Rattle.records.proofs.TestLaws.{cond-elim, false-true}
+use Rattle.base.proofs.TestLaws.{cond-elim, false-true}
 use Rattle.records.specs.declared.Parameters.{Parameters}
 use Rattle.account.specs.declared.Server.{Server}
 use Rattle.account.specs.declared.Place.the-variants.{Low, LowThenUpper, Upper}

@@ -9,7 +9,7 @@ use native.Mathlib.Numerals.{add-one}
 use native.Mathlib.Omega.{arith}
 use native.Mathlib.Nat.{add-comm}
 use lib.Dec.{eqb}
-use Rattle.records.proofs.TestLaws.{cond-elim}
+use Rattle.base.proofs.TestLaws.{cond-elim}
 use Rattle.account.specs.declared.Pending.{Pending}
 use Rattle.account.specs.declared.Effect.{Effect}
 use Rattle.account.specs.Rules.{withoutFirst, slotsAfter, pendingAfter}

@@ -6,7 +6,7 @@ use lib.ListN.{getD}
 use lib.Dec.{ltb, leb}
 use native.Mathlib.Omega.{arith}
 use borrow.Author.Tests.{ltb-true}
-use Rattle.records.proofs.TestLaws.{false-true}
+use Rattle.base.proofs.TestLaws.{false-true}
 use Rattle.records.specs.declared.Parameters.{Parameters}
 use Rattle.account.specs.declared.Pending.{Pending}
 use Rattle.account.specs.declared.Account.{Account}

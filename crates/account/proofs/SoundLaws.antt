@@ -10,7 +10,7 @@ use native.Mathlib.Numerals.{add-one}
 use native.Mathlib.Omega.{arith}
 use borrow.Author.Tests.{lt-ltb, le-ltb, ltb-true, leb-false, eq-eqb, ne-eqb}
 use Rattle.records.specs.declared.Parameters.{Parameters}
-use Rattle.records.proofs.TestLaws.{tests, All, all-true, true-all, false-true, zeros-drop, zeros-append, zeros-replicate}
+use Rattle.base.proofs.TestLaws.{tests, All, all-true, true-all, false-true, zeros-drop, zeros-append, zeros-replicate}
 use Rattle.account.specs.declared.Server.{Server}
 use Rattle.account.specs.declared.Pending.{Pending}
 use Rattle.account.specs.declared.Account.{Account}

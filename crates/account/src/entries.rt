@@ -2,6 +2,7 @@
 ghost use mathlib.Core.Path.{_≡_};
 ghost use Rattle.account.specs.Rules.{withoutFirst, countAfter, slotsAfter, Room};
 use super::ENTRIES;
+use base::wide;
 
 // How many entries there are after a rule: one less where the first went, one more where an amount came.
 pub fn count_after(first: bool, amount: u64, count: u8) -> u8
@@ -38,12 +39,6 @@ pub fn slots_after(
     let k = wide(count);
     r[k] = x;
     r
-}
-
-fn wide(x: u8) -> usize
-    ensures { λ r. ⌜ r ≡ x ⌝ }
-{
-    x as usize
 }
 
 // Each number one slot up; the last slot is 0.

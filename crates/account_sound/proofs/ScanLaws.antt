@@ -9,8 +9,8 @@ use lib.Dec.{eqb}
 use native.Mathlib.Numerals.{add-one}
 use native.Mathlib.Omega.{arith}
 use borrow.Author.Tests.{lt-ltb, le-ltb, le-leb, lt-leb, eq-eqb, ne-eqb, eqb-true, eqb-false}
-use Rattle.records.specs.Tests.{all, zeros}
-use Rattle.records.proofs.TestLaws.{all-false}
+use Rattle.base.specs.Tests.{all, zeros}
+use Rattle.base.proofs.TestLaws.{all-false}
 use Rattle.account.specs.Sound.{sum, amountTests, dueTests}
 
 -- the next of the first n places

@@ -4,6 +4,7 @@ ghost use mathlib.Core.Bool.{false, cond};
 ghost use Rattle.account.specs.Account.{atUpper};
 ghost use Rattle.account.specs.Sound.{soundAt};
 use account::Account;
+use base::wide;
 use records::Parameters;
 
 mod tests; // tests.rt: what soundness asks of the numbers and the pending entries
@@ -42,10 +43,4 @@ fn runs_upper(p: Parameters, capacity: u64, count: u8, blocked: bool) -> bool
         return false;
     }
     account::at_upper(p, capacity, count)
-}
-
-fn wide(x: u8) -> usize
-    ensures { λ r. ⌜ r ≡ x ⌝ }
-{
-    x as usize
 }

@@ -3,7 +3,7 @@ ghost use mathlib.Core.Path.{_≡_};
 ghost use Prim.Native.Nat.{_+_, _≤_};
 ghost use mathlib.Core.Bool.{cond};
 ghost use lib.ListN.{take};
-ghost use Rattle.records.specs.Tests.{all};
+ghost use Rattle.base.specs.Tests.{all};
 ghost use Rattle.account.specs.Account.{entries};
 ghost use Rattle.account.specs.Sound.{numberTests, amountTests, dueTests, slotTests};
 use account::ENTRIES;

@@ -1,6 +1,6 @@
 -- The worked table, by computing.
 use mathlib.Core.Path.{refl}
-use Rattle.records.specs.Tests.{all, below}
+use Rattle.base.specs.Tests.{all, below}
 use Rattle.records.specs.Ranges.{fifoInRange, rrInRange, sporadicInRange, inRange, allZero}
 use Rattle.account.specs.Rules.{scheduled, limitEffect, returnEffect}
 use Rattle.account.specs.Sound.{soundAt}
@@ -8,7 +8,8 @@ use Rattle.ready.specs.Lists.{withThreads, without, occurs}
 use Rattle.ready.specs.Word.{wordOf, occupancy}
 use Rattle.ready.specs.Sound.{soundRow, soundRows, soundLists}
 use Rattle.passing.specs.Time.{run}
-use Rattle.passing.specs.Sequence.{firstOf, status, answer}
+use Rattle.base.specs.Refusals.{firstRefusal}
+use Rattle.passing.specs.Sequence.{status, answer}
 use Rattle.rows.specs.Rows.{withSlots}
 use Rattle.state.specs.Sound.{presentTest, absentTest, soundState}
 use Rattle.ticks.specs.Running.{nextDue}
@@ -20,5 +21,5 @@ use Rattle.events.specs.Table.{listOf, TableHolds}
 
 -- the replay's seven events and the five rows
 pub table-holds : TableHolds
-unfolding lib.Count.leadingZeros all below fifoInRange rrInRange sporadicInRange inRange allZero scheduled limitEffect returnEffect soundAt withThreads without occurs wordOf occupancy soundRow soundRows soundLists run firstOf status answer withSlots presentTest absentTest soundState nextDue limits replenish replenishBelow fire effect fieldStatusOf stateStatusOf enteredBelow openStatus opening listOf
+unfolding lib.Count.leadingZeros all below fifoInRange rrInRange sporadicInRange inRange allZero scheduled limitEffect returnEffect soundAt withThreads without occurs wordOf occupancy soundRow soundRows soundLists run firstRefusal status answer withSlots presentTest absentTest soundState nextDue limits replenish replenishBelow fire effect fieldStatusOf stateStatusOf enteredBelow openStatus opening listOf
 table-holds = refl

@@ -9,15 +9,16 @@ use native.Mathlib.Omega.{arith}
 use borrow.Author.Tests.{eq-eqb, ne-eqb}
 use Rattle.records.specs.declared.Header.{Header}
 use Rattle.records.specs.declared.Event.{Event}
-use Rattle.records.specs.Tests.{all}
+use Rattle.base.specs.Tests.{all}
 use Rattle.records.specs.Ranges.{allZero, fifoInRange}
-use Rattle.records.proofs.TestLaws.{cond-true, cond-false}
+use Rattle.base.proofs.TestLaws.{cond-true, cond-false}
 use Rattle.ready.specs.Lists.{rowAt, threads}
 use Rattle.ready.specs.Word.{sizeAt, highestOf, highestList}
 use Rattle.ready.proofs.WordLaws.{Highest, highest-leading, highest-list}
 use Rattle.ready.proofs.SoundLaws.{size-threads, highest-sound}
 use Rattle.passing.specs.Time.{advance}
-use Rattle.passing.specs.Sequence.{Answer, firstOf}
+use Rattle.base.specs.Refusals.{firstRefusal}
+use Rattle.passing.specs.Sequence.{Answer}
 use Rattle.passing.proofs.TimeLaws.{advance-rest, advance-due, keeps, sound-advance, advance-advance}
 use Rattle.passing.proofs.SequenceLaws.{acceptable, answer-accepted}
 use Rattle.passing.proofs.ReadingsLaws.{MachineLaws, extra-readings}
@@ -39,14 +40,14 @@ use Rattle.events.proofs.OpeningLaws.{opening-sound}
 -- the fields of an event are judged by N alone
 field-header : (s u : State) (e : Event) → u .header ≡ s .header → fieldStatus u e ≡ fieldStatus s e
 unfolding fieldStatusOf
-field-header s u e q = ap (λ (h : Header). firstOf (cond (badKind e) 4 0 ∷ cond (cond (leb (e .kind) 2) (not (eqb (e .thread) 0)) (leb (h .n) (e .thread))) 5 0 ∷ cond (badParameters e) 6 0 ∷ [])) q
+field-header s u e q = ap (λ (h : Header). firstRefusal ((badKind e, 4) ∷ (cond (leb (e .kind) 2) (not (eqb (e .thread) 0)) (leb (h .n) (e .thread)), 5) ∷ (badParameters e, 6) ∷ [])) q
 
 -- and time leaves N as it is
 pub field-passed : (s : State) (e : Event) → fieldStatus (passed s (e .time)) e ≡ fieldStatus s e
 field-passed s e = field-header s (passed s (e .time)) e (keeps clock (λ (v : State). v .header) (λ k v. refl) header-fire s (e .time))
 
 pub lawful : MachineLaws executive
-unfolding fieldStatusOf stateStatusOf effect firstOf allZero fifoInRange all
+unfolding fieldStatusOf stateStatusOf effect firstRefusal allZero fifoInRange all
 lawful =
     record {
       passing = passing;

@@ -7,9 +7,8 @@ use lib.ListN.{length}
 use lib.Dec.{leb}
 use native.Mathlib.Omega.{arith}
 use Rattle.records.specs.declared.Parameters.{Parameters}
-use Rattle.records.specs.Tests.{byPolicy}
-use Rattle.records.specs.Ranges.{inRange, fifoInRange, rrInRange, sporadicInRange}
-use Rattle.records.proofs.TestLaws.{tests, All, cond-true, cond-false, false-true}
+use Rattle.records.specs.Ranges.{byPolicy, inRange, fifoInRange, rrInRange, sporadicInRange}
+use Rattle.base.proofs.TestLaws.{tests, All, cond-true, cond-false, false-true}
 use Rattle.account.specs.declared.Pending.{Pending}
 use Rattle.account.specs.declared.Account.{Account}
 use Rattle.account.specs.declared.Place.{Place}

@@ -10,9 +10,8 @@ use native.Mathlib.Decide.{ℕ-discrete}
 use borrow.Author.Tests.{eqb-true, eq-eqb, ne-eqb, lt-ltb, leb-false, ltb-false, not-false}
 use Rattle.records.specs.declared.Parameters.{Parameters}
 use Rattle.records.specs.declared.Event.{Event}
-use Rattle.records.specs.Tests.{byPolicy}
-use Rattle.records.specs.Ranges.{inRange, allZero}
-use Rattle.records.proofs.TestLaws.{tests, cond-elim, cond-true, cond-false, false-true}
+use Rattle.records.specs.Ranges.{byPolicy, inRange, allZero}
+use Rattle.base.proofs.TestLaws.{tests, cond-elim, cond-true, cond-false, false-true}
 use Rattle.account.specs.declared.Pending.{Pending}
 use Rattle.account.specs.declared.Account.{Account}
 use Rattle.account.specs.Account.{atUpper, isUpper}
@@ -22,7 +21,7 @@ use Rattle.ready.specs.Lists.{appended, removed, moved}
 use Rattle.ready.specs.Word.{occupancy}
 use Rattle.ready.proofs.Soundness.{ListsSound}
 use Rattle.ready.proofs.SoundLaws.{withPlace, sound-same, append-sound, remove-sound, move-sound}
-use Rattle.passing.proofs.SequenceLaws.{firstOf-zero}
+use Rattle.base.proofs.RefusalLaws.{passed}
 use Rattle.state.specs.declared.Thread.{Thread}
 use Rattle.state.specs.declared.State.{State}
 use Rattle.state.specs.State.{isBlocked, noThread, threadAt, pendingAt, accountAt, assigned, placeOf, place}
@@ -202,10 +201,6 @@ module _ (s : State) (h : Sound s) where
 
 -- ---- an event that is accepted
 
-pub no-status : (b : Bool) (n : ℕ) → 0 < n → cond b n 0 ≡ 0 → b ≡ false
-no-status true n l e = absurd (omega arith)
-no-status false n l e = refl
-
 pub and-both : (a b : Bool) → (a && b) ≡ true → (a ≡ true) × (b ≡ true)
 and-both true b e = (refl, e)
 and-both false b e = false-true e
@@ -216,22 +211,22 @@ module _ (s : State) (h : Sound s) (e : Event) (f : fieldStatus s e ≡ 0) (g : 
       × (cond (eqb k 4) (not (inRange 8 (e .parameters) && eqb (e .parameters .flag) 0)) (not (allZero (e .parameters))) ≡ false)
   unfolding fieldStatusOf
   fields k z =
-      let a = firstOf-zero _ _ f in
-      let b = firstOf-zero _ _ (a .1) in
-      let c = firstOf-zero _ _ (b .1) in (
-        subst (λ (x : ℕ). ltb 4 x ≡ false) z (no-status _ 4 (omega arith) (a .0)),
-        subst (λ (x : ℕ). cond (leb x 2) (not (eqb (e .thread) 0)) (leb (s .header .n) (e .thread)) ≡ false) z (no-status _ 5 (omega arith) (b .0)),
-        subst (λ (x : ℕ). cond (eqb x 4) (not (inRange 8 (e .parameters) && eqb (e .parameters .flag) 0)) (not (allZero (e .parameters))) ≡ false) z (no-status _ 6 (omega arith) (c .0)),
+      let a = passed _ 3 _ f in
+      let b = passed _ 4 _ (a .1) in
+      let c = passed _ 5 _ (b .1) in (
+        subst (λ (x : ℕ). ltb 4 x ≡ false) z (a .0),
+        subst (λ (x : ℕ). cond (leb x 2) (not (eqb (e .thread) 0)) (leb (s .header .n) (e .thread)) ≡ false) z (b .0),
+        subst (λ (x : ℕ). cond (eqb x 4) (not (inRange 8 (e .parameters) && eqb (e .parameters .flag) 0)) (not (allZero (e .parameters))) ≡ false) z (c .0),
       )
 
   -- and the state, at its time
   pub state : (k : ℕ) → e .kind ≡ k → (cond (eqb k 1) (idles s) (eqb k 2 && idles s) ≡ false) × ((eqb k 3 && not (isBlocked (threadAt s (e .thread)))) ≡ false)
   unfolding stateStatusOf
   state k z =
-      let a = firstOf-zero _ _ g in
-      let b = firstOf-zero _ _ (a .1) in (
-        subst (λ (x : ℕ). cond (eqb x 1) (idles s) (eqb x 2 && idles s) ≡ false) z (no-status _ 7 (omega arith) (a .0)),
-        subst (λ (x : ℕ). (eqb x 3 && not (isBlocked (threadAt s (e .thread)))) ≡ false) z (no-status _ 8 (omega arith) (b .0)),
+      let a = passed _ 6 _ g in
+      let b = passed _ 7 _ (a .1) in (
+        subst (λ (x : ℕ). cond (eqb x 1) (idles s) (eqb x 2 && idles s) ≡ false) z (a .0),
+        subst (λ (x : ℕ). (eqb x 3 && not (isBlocked (threadAt s (e .thread)))) ≡ false) z (b .0),
       )
 
   pub effect-sound : Sound (effect s e)

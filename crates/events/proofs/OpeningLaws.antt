@@ -10,16 +10,16 @@ use native.Mathlib.Decide.{ℕ-discrete}
 use borrow.Author.Tests.{eq-eqb, ne-eqb, lt-ltb, le-ltb, ltb-true, ltb-false, leb-true}
 use Rattle.records.specs.declared.Parameters.{Parameters}
 use Rattle.records.specs.declared.Header.{Header}
-use Rattle.records.specs.Tests.{zeros}
+use Rattle.base.specs.Tests.{zeros}
 use Rattle.records.specs.Ranges.{inRange, noParameters}
-use Rattle.records.proofs.TestLaws.{tests, All, below-at, zeros-eq, zeros-drop, zeros-replicate, cond-true, cond-false, false-true}
+use Rattle.base.proofs.TestLaws.{tests, All, below-at, zeros-eq, zeros-drop, zeros-replicate, cond-true, cond-false, false-true}
 use Rattle.account.specs.declared.Pending.{Pending}
 use Rattle.ready.specs.Lists.{appended}
 use Rattle.ready.specs.Word.{occupancy}
 use Rattle.ready.proofs.Soundness.{ListsSound}
 use Rattle.ready.proofs.SoundLaws.{withPlace, sound-same, append-sound, empty-sound}
 use Rattle.passing.specs.Sequence.{Answer, accepted}
-use Rattle.passing.proofs.SequenceLaws.{firstOf-zero}
+use Rattle.base.proofs.RefusalLaws.{passed}
 use Rattle.state.specs.declared.Thread.{Thread}
 use Rattle.state.specs.declared.State.{State}
 use Rattle.rows.specs.Rows.{slotsAt}
@@ -34,7 +34,7 @@ use Rattle.events.specs.Effects.{renewed, newAccount}
 use Rattle.events.specs.Answers.{executive}
 use Rattle.events.specs.Opening.{emptyState, withoutFlag, entered, enteredBelow, openStatus, opening}
 use Rattle.events.proofs.EffectLaws.{Fits, set-fits}
-use Rattle.events.proofs.EventLaws.{no-status, and-both}
+use Rattle.events.proofs.EventLaws.{and-both}
 use Rattle.state.specs.Updates.{withLists, withAccount, withBlocked, withServer, stateOf}
 
 -- the same state with another number of threads
@@ -184,19 +184,15 @@ unfolding enteredBelow
 header-entered table zero s = refl
 header-entered table (suc k) s = header-entered table k s
 
-pub or-status : (b : Bool) (n : ℕ) → 0 < n → cond b 0 n ≡ 0 → b ≡ true
-or-status true n l e = refl
-or-status false n l e = absurd (omega arith)
-
 pub opened-sound : (start n : ℕ) (table : List Parameters) → openStatus start n table ≡ 0 → Sound (enteredBelow n table (emptyState n start))
 unfolding openStatus
 opened-sound start n table z =
-    let a = firstOf-zero _ _ z in
-    let b = firstOf-zero _ _ (a .1) in
-    let c = firstOf-zero _ _ (b .1) in
-    let r = and-both (leb 1 n) (leb n 32) (or-status _ 5 (omega arith) (a .0)) in
-    let t = ltb-false 1000000000000000 start (no-status _ 3 (omega arith) (b .0)) in
-    let v = or-status _ 6 (omega arith) (c .0) in
+    let a = passed _ 4 _ z in
+    let b = passed _ 2 _ (a .1) in
+    let c = passed _ 5 _ (b .1) in
+    let r = and-both (leb 1 n) (leb n 32) (not-false _ (a .0)) in
+    let t = ltb-false 1000000000000000 start (b .0) in
+    let v = not-false _ (c .0) in
     let s = enteredBelow n table (emptyState n start) in
     let e = below-entered n start t table n (leb-true n 32 (r .1))
     (λ i m. and-both (inRange 8 (getD table i noParameters)) (leb (getD table i noParameters .flag) 1)

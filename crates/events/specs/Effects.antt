@@ -4,7 +4,7 @@ use mathlib.Core.Bool.{true, false, cond}
 use lib.ListN.{getD, replicate}
 use Rattle.records.specs.declared.Parameters.{Parameters}
 use Rattle.records.specs.declared.Event.{Event}
-use Rattle.records.specs.Tests.{byPolicy}
+use Rattle.records.specs.Ranges.{byPolicy}
 use Rattle.account.specs.declared.Account.{Account}
 use Rattle.account.specs.Account.{entries, freshAccount}
 use Rattle.account.specs.Rules.{blocking, waking}

@@ -1,14 +1,15 @@
 -- Opening a state from a table of threads.
 use Prim.Native.Nat.{ℕ, zero, suc}
-use mathlib.Core.Bool.{cond, _&&_}
+use mathlib.Core.Bool.{cond, not, _&&_}
 use mathlib.Core.List.{List, [], _∷_}
 use lib.ListN.{getD, replicate}
 use lib.Dec.{ltb, leb, eqb}
 use Rattle.records.specs.declared.Parameters.{Parameters}
-use Rattle.records.specs.Tests.{below}
+use Rattle.base.specs.Tests.{below}
 use Rattle.records.specs.Ranges.{mostThreads, mostReplenishments, lastTime, inRange, noParameters}
 use Rattle.ready.specs.Lists.{appended}
-use Rattle.passing.specs.Sequence.{Answer, firstOf, accepted}
+use Rattle.base.specs.Refusals.{firstRefusal}
+use Rattle.passing.specs.Sequence.{Answer, accepted}
 use Rattle.state.specs.declared.State.{State}
 use Rattle.state.specs.State.{noThread, threadAt}
 use Rattle.events.specs.Effects.{renewed, newAccount}
@@ -38,10 +39,10 @@ enteredBelow (suc n) table s = entered n (getD table n noParameters) (enteredBel
 -- 01 Status 6, 4 and 7 at opening, in the order of 01 Status 16: 5, 3, 6
 unfoldable pub openStatus : ℕ → ℕ → List Parameters → ℕ
 openStatus start n table =
-    firstOf
-    (cond (leb 1 n && leb n mostThreads) 0 5
-    ∷ cond (ltb lastTime start) 3 0
-    ∷ cond (below n (λ i. inRange mostReplenishments (getD table i noParameters) && leb (getD table i noParameters .flag) 1)) 0 6
+    firstRefusal
+    ((not (leb 1 n && leb n mostThreads), 5)
+    ∷ (ltb lastTime start, 3)
+    ∷ (not (below n (λ i. inRange mostReplenishments (getD table i noParameters) && leb (getD table i noParameters .flag) 1)), 6)
     ∷ [])
 
 -- 01 Events 7, 01 Status 20: the answer to an opening

@@ -9,7 +9,7 @@ use lib.Dec.{leb, eqb}
 use native.Mathlib.Omega.{arith}
 use borrow.Author.Tests.{ltb-false}
 use Rattle.records.specs.declared.Event.{Event}
-use Rattle.records.proofs.TestLaws.{tests, cond-true, cond-false}
+use Rattle.base.proofs.TestLaws.{tests, cond-true, cond-false}
 use Rattle.account.specs.declared.Pending.{Pending}
 use Rattle.account.specs.Rules.{blocking, waking}
 use Rattle.ready.specs.Lists.{headOf, removed, moved}

@@ -10,7 +10,7 @@ use native.Mathlib.Omega.{arith}
 use borrow.Author.Tests.{eqb-true, eqb-false, ltb-true}
 use Rattle.records.specs.declared.Header.{Header}
 use Rattle.records.specs.declared.Event.{Event}
-use Rattle.records.proofs.TestLaws.{cond-false}
+use Rattle.base.proofs.TestLaws.{cond-false}
 use Rattle.account.specs.declared.Pending.{Pending}
 use Rattle.ready.proofs.SoundLaws.{highest-sound, idle}
 use Rattle.passing.proofs.TimeLaws.{keeps, sound-advance}

@@ -9,23 +9,23 @@ use native.Mathlib.Omega.{arith}
 use native.Mathlib.Numerals.{add-one}
 use borrow.Author.Tests.{eq-eqb, ne-eqb, lt-ltb, le-ltb, le-leb, lt-leb, leb-true, ltb-false}
 use Rattle.records.specs.declared.Parameters.{Parameters}
-use Rattle.records.specs.Tests.{below}
+use Rattle.base.specs.Tests.{below}
 use Rattle.records.specs.Ranges.{inRange, noParameters}
-use Rattle.records.proofs.TestLaws.{tests, all-true, all-one, below-at, cond-true, cond-false}
+use Rattle.base.proofs.TestLaws.{tests, all-true, all-one, below-at, cond-true, cond-false}
 use Rattle.account.specs.declared.Account.{Account}
 use Rattle.ready.specs.Lists.{appended}
 use Rattle.ready.specs.Word.{occupancy}
 use Rattle.ready.specs.Rules.{Joinable}
 use Rattle.ready.proofs.SoundLaws.{joinable}
-use Rattle.passing.specs.Sequence.{firstOf}
-use Rattle.passing.proofs.SequenceLaws.{firstOf-zero}
+use Rattle.base.specs.Refusals.{firstRefusal}
+use Rattle.base.proofs.RefusalLaws.{passed}
 use Rattle.state.specs.declared.Thread.{Thread}
 use Rattle.state.specs.declared.State.{State}
 use Rattle.state.specs.State.{noThread, threadAt, place}
 use Rattle.events.specs.Effects.{renewed, newAccount}
 use Rattle.events.specs.Opening.{emptyState, withoutFlag, entered, enteredBelow, openStatus, opening}
-use Rattle.events.proofs.EventLaws.{no-status, and-both}
-use Rattle.events.proofs.OpeningLaws.{Entered, unplaced, below-entered, or-status, opened-sound}
+use Rattle.events.proofs.EventLaws.{and-both}
+use Rattle.events.proofs.OpeningLaws.{Entered, unplaced, below-entered, opened-sound}
 use Rattle.executive.proofs.StateLaws.{lists-are}
 use Rattle.passing.specs.Sequence as sequence
 use Rattle.state.specs.Sound.{soundState}
@@ -63,20 +63,20 @@ opens table i = inRange 8 (getD table i noParameters) && leb (getD table i noPar
 
 module _ (start n : ℕ) (table : List Parameters) where
   pub status-none : n < 1 → openStatus start n table ≡ 5
-  unfolding openStatus firstOf
+  unfolding openStatus firstRefusal
   status-none a = simp (lt-leb 1 n a)
 
   pub status-many : 32 < n → openStatus start n table ≡ 5
-  unfolding openStatus firstOf
+  unfolding openStatus firstRefusal
   status-many a = simp (le-leb 1 n (omega arith), lt-leb n 32 a)
 
   module _ (a : 1 ≤ n) (b : n ≤ 32) where
     pub status-late : 1000000000000000 < start → openStatus start n table ≡ 3
-    unfolding openStatus firstOf
+    unfolding openStatus firstRefusal
     status-late c = simp (le-leb 1 n a, le-leb n 32 b, lt-ltb 1000000000000000 start c)
 
     pub status-table : start ≤ 1000000000000000 → (t : Bool) → below n (opens table) ≡ t → openStatus start n table ≡ cond t 0 6
-    unfolding openStatus firstOf
+    unfolding openStatus firstRefusal
     status-table c true d = simp (le-leb 1 n a, le-leb n 32 b, le-ltb 1000000000000000 start c, d)
     status-table c false d = simp (le-leb 1 n a, le-leb n 32 b, le-ltb 1000000000000000 start c, d)
 
@@ -124,12 +124,12 @@ module _ (start n : ℕ) (table : List Parameters) (z : openStatus start n table
   accepted : (n ≤ 32) × (start ≤ 1000000000000000) × (below n (opens table) ≡ true)
   unfolding openStatus
   accepted =
-      let a = firstOf-zero _ _ z in
-      let b = firstOf-zero _ _ (a .1) in
-      let c = firstOf-zero _ _ (b .1) in (
-        leb-true n 32 (and-both (leb 1 n) (leb n 32) (or-status _ 5 (omega arith) (a .0)) .1),
-        ltb-false 1000000000000000 start (no-status _ 3 (omega arith) (b .0)),
-        or-status _ 6 (omega arith) (c .0),
+      let a = passed _ 4 _ z in
+      let b = passed _ 2 _ (a .1) in
+      let c = passed _ 5 _ (b .1) in (
+        leb-true n 32 (and-both (leb 1 n) (leb n 32) (not-false _ (a .0)) .1),
+        ltb-false 1000000000000000 start (b .0),
+        not-false _ (c .0),
       )
 
   pub few : n ≤ 32

@@ -5,7 +5,7 @@ use mathlib.Core.Path.{_≡_, refl, ap, subst⁻¹}
 use lib.ListN.{length}
 use lib.Dec.{eqb, ltb}
 use native.Mathlib.Omega.{arith}
-use Rattle.records.proofs.TestLaws.{tests, false-true}
+use Rattle.base.proofs.TestLaws.{tests, false-true}
 use Rattle.records.specs.Ranges.{inRange}
 use Rattle.account.specs.declared.Pending.{Pending}
 use Rattle.account.specs.Sound.{runsUpper}

@@ -8,11 +8,14 @@ use native.Mathlib.Omega.{arith}
 use borrow.Author.Tests.{ne-eqb, eqb-true, eqb-false, not-true, not-false}
 use Rattle.records.specs.declared.Event.{Event}
 use Rattle.records.specs.Ranges.{lastTime, longestStep}
-use Rattle.records.proofs.TestLaws.{tests, cond-false, false-true}
-use Rattle.passing.specs.Sequence.{firstOf, status, refused}
+use Rattle.base.proofs.TestLaws.{tests, cond-false, false-true}
+use Rattle.base.specs.Refusals.{firstRefusal, given}
+use Rattle.passing.specs.Sequence.{status, refused}
 use Rattle.passing.specs.Time.{dueBy}
 use Rattle.passing.proofs.TimeLaws.{due-true, sound-advance, now-advance, advance-advance}
-use Rattle.passing.proofs.SequenceLaws.{answer-accepted, answer-refused, unsound-answer, firstOf-zero}
+use Rattle.passing.proofs.SequenceLaws.{answer-accepted, answer-refused, unsound-answer}
+use Rattle.base.proofs.RefusalLaws as refusals
+use Rattle.base.proofs.RefusalLaws.{past, given-zero, given-first, given-second, given-last, given-passed, status-at-most}
 use Rattle.state.specs.declared.State.{State}
 use Rattle.state.specs.State.{isBlocked, threadAt}
 use Rattle.state.specs.Sound.{soundState}
@@ -27,29 +30,37 @@ use Rattle.events.proofs.EventLaws.{effect-sound}
 use Rattle.events.proofs.DemandLaws.{field-passed}
 use Rattle.executive.specs.Answer.{returned, eventAnswer, answered, unread, timeStatus, earlyStatus}
 use Rattle.executive.specs.Steps.{soundStatus}
-use Rattle.executive.proofs.StatusLaws.{time-zero, two-small, early-small, state-small, first-is, second-is, early-zero, thread-small}
+use Rattle.executive.proofs.StatusLaws.{time-zero, early-small, state-small, early-zero, thread-small}
 use Rattle.executive.proofs.KeptLaws.{status-kept}
 
--- the first of the statuses, where the state is sound
-first-early : (x f a b c d : ℕ) → x ≡ 0 → (firstOf (f ∷ firstOf (a ∷ b ∷ c ∷ []) ∷ []) ≡ 0 → ⊥)
-    → firstOf (x ∷ f ∷ a ∷ b ∷ c ∷ d ∷ []) ≡ firstOf (f ∷ firstOf (a ∷ b ∷ c ∷ []) ∷ [])
-unfolding firstOf
-first-early (suc x) f a b c d e n = absurd (omega arith)
-first-early zero (suc f) a b c d e n = refl
-first-early zero zero (suc a) b c d e n = refl
-first-early zero zero zero (suc b) c d e n = refl
-first-early zero zero zero zero (suc c) d e n = refl
-first-early zero zero zero zero zero d e n = absurd (n refl)
+-- the first of the statuses, where the state is sound: x that it isn't; f by the fields; a, b, c by the time; d by the state
+module _ (x : Bool) (f : ℕ) (a b c : Bool) (d : ℕ) (e : x ≡ false) where
+  abbrev byTime : ℕ
+  byTime = firstRefusal ((a, 3) ∷ (b, 1) ∷ (c, 2) ∷ [])
 
-first-late : (x f a b c d : ℕ) → x ≡ 0 → f ≡ 0 → firstOf (a ∷ b ∷ c ∷ []) ≡ 0 → firstOf (x ∷ f ∷ a ∷ b ∷ c ∷ d ∷ []) ≡ d
-unfolding firstOf
-first-late (suc x) f a b c d n e g = absurd (omega arith)
-first-late zero (suc f) a b c d n e g = absurd (omega arith)
-first-late zero zero (suc a) b c d n e g = absurd (omega arith)
-first-late zero zero zero (suc b) c d n e g = absurd (omega arith)
-first-late zero zero zero zero (suc c) d n e g = absurd (omega arith)
-first-late zero zero zero zero zero zero n e g = refl
-first-late zero zero zero zero zero (suc d) n e g = refl
+  abbrev all : ℕ
+  all = firstRefusal ((x, 9) ∷ given f ∷ (a, 3) ∷ (b, 1) ∷ (c, 2) ∷ given d ∷ [])
+
+  first-early : (firstRefusal (given f ∷ given byTime ∷ []) ≡ 0 → ⊥) → all ≡ firstRefusal (given f ∷ given byTime ∷ [])
+  unfolding firstRefusal
+  first-early n = past x 9 _ e ∙ go (ℕ-discrete f 0)
+    where
+      times : (a b c : Bool) → (firstRefusal ((a, 3) ∷ (b, 1) ∷ (c, 2) ∷ []) ≡ 0 → ⊥)
+          → firstRefusal ((a, 3) ∷ (b, 1) ∷ (c, 2) ∷ given d ∷ []) ≡ firstRefusal ((a, 3) ∷ (b, 1) ∷ (c, 2) ∷ [])
+      times true b c m = refl
+      times false true c m = refl
+      times false false true m = refl
+      times false false false m = absurd (m refl)
+
+      go : Dec (f ≡ 0) → firstRefusal (given f ∷ (a, 3) ∷ (b, 1) ∷ (c, 2) ∷ given d ∷ []) ≡ firstRefusal (given f ∷ given byTime ∷ [])
+      go (yes z) = given-zero f _ z ∙ times a b c (λ y. n (given-second f byTime z ∙ y)) ∙ sym (given-second f byTime z)
+      go (no m) = given-first f _ m ∙ sym (given-first f _ m)
+
+  first-late : f ≡ 0 → byTime ≡ 0 → all ≡ d
+  first-late z g =
+      let p = refusals.passed a 2 _ g in
+      let q = refusals.passed b 0 _ (p .1) in
+      past x 9 _ e ∙ given-zero f _ z ∙ past a 3 _ (p .0) ∙ past b 1 _ (q .0) ∙ past c 2 _ (refusals.passed c 1 _ (q .1) .0) ∙ given-last d
 
 -- a refusal by any number but 9
 returned-refused : (n : ℕ) (s : State) → (n ≡ 9 → ⊥) → returned (refused executive n s) ≡ answered n s
@@ -89,8 +100,8 @@ module _ (s : State) (e : Event) (a : soundState s ≡ true) where
   status-early : (early ≡ 0 → ⊥) → status executive s e ≡ early
   unfolding status timeStatus
   status-early d =
-      first-early (cond (not (soundState s)) 9 0) (fieldStatus s e) (cond (ltb lastTime (e .time)) 3 0) (cond (ltb (e .time) (s .now)) 1 0) (cond (ltb (s .now + longestStep) (e .time)) 2 0)
-      (stateStatus (passed s (e .time)) e) (ap (λ (b : Bool). cond (not b) 9 0) a) d
+      first-early (not (soundState s)) (fieldStatus s e) (ltb lastTime (e .time)) (ltb (e .time) (s .now)) (ltb (s .now + longestStep) (e .time)) (stateStatus (passed s (e .time)) e)
+      (ap not a) d
 
   module _ (z : early ≡ 0) where
     times : (s .now ≤ e .time) × (e .time ≤ 1000000000000000)
@@ -102,8 +113,8 @@ module _ (s : State) (e : Event) (a : soundState s ≡ true) where
     status-late : status executive s e ≡ stateStatus s e
     unfolding status timeStatus
     status-late =
-        first-late (cond (not (soundState s)) 9 0) (fieldStatus s e) (cond (ltb lastTime (e .time)) 3 0) (cond (ltb (e .time) (s .now)) 1 0) (cond (ltb (s .now + longestStep) (e .time)) 2 0)
-        (stateStatus (passed s (e .time)) e) (ap (λ (b : Bool). cond (not b) 9 0) a) fields (early-zero (s .header .n) (s .now) e z .1)
+        first-late (not (soundState s)) (fieldStatus s e) (ltb lastTime (e .time)) (ltb (e .time) (s .now)) (ltb (s .now + longestStep) (e .time)) (stateStatus (passed s (e .time)) e)
+        (ap not a) fields (early-zero (s .header .n) (s .now) e z .1)
         ∙ status-kept s e a (times .0) (times .1)
 
   -- the status that is found before time passes; i is the place of the thread that the event names
@@ -120,19 +131,19 @@ module _ (s : State) (e : Event) (a : soundState s ≡ true) where
     judged = go early refl
       where
         go : (x : ℕ) → early ≡ x → status executive s e ≡ k
-        go zero z = status-late z ∙ named z ∙ second-is early late z ∙ sym is
-        go (suc x) z = let d : early ≡ 0 → ⊥ = λ y. omega arith in status-early d ∙ first-is early late d ∙ sym is
+        go zero z = status-late z ∙ named z ∙ sym (given-second early late z) ∙ sym is
+        go (suc x) z = let d : early ≡ 0 → ⊥ = λ y. omega arith in status-early d ∙ sym (given-first early _ d) ∙ sym is
 
     -- refused
     refusal : (k ≡ 0 → ⊥) → answered k s ≡ eventAnswer s e
     refusal d =
         refused-is k judged (omega (arith, d))
-        (omega (arith, is, two-small early late 8 (omega (arith, early-small (s .header .n) (s .now) e)) (state-small (e .kind) (idles s) (isBlocked (threadAt s i)))))
+        (omega (arith, is, status-at-most 8 (given early ∷ given late ∷ []) (omega (arith, early-small (s .header .n) (s .now) e), (state-small (e .kind) (idles s) (isBlocked (threadAt s i)), tt))))
 
     -- accepted
     module _ (y : k ≡ 0) where
       nothing : (early ≡ 0) × (late ≡ 0)
-      nothing = let b = firstOf-zero early _ (sym is ∙ y) in (b .0, firstOf-zero late _ (b .1) .0)
+      nothing = let b = given-passed early _ (sym is ∙ y) in (b .0, given-passed late _ (b .1) .0)
 
       begins : Open s e s
       begins =

@@ -1,12 +1,12 @@
 -- The answers of the code are those of the definitions.
 use Prim.Native.Nat.{ℕ, _+_}
-use mathlib.Core.Bool.{cond}
 use mathlib.Core.List.{List, [], _∷_}
 use lib.Dec.{ltb}
 use Rattle.records.specs.declared.Parameters.{Parameters}
 use Rattle.records.specs.declared.Event.{Event}
 use Rattle.records.specs.Ranges.{lastTime, longestStep}
-use Rattle.passing.specs.Sequence.{firstOf, answer}
+use Rattle.base.specs.Refusals.{firstRefusal, given}
+use Rattle.passing.specs.Sequence.{answer}
 use Rattle.passing.specs.Sequence as sequence
 use Rattle.state.specs.declared.State.{State}
 use Rattle.ticks.specs.Running.{running, next}
@@ -36,8 +36,8 @@ unread status s = record { status = status; running = 255; next = 0; state = s }
 
 -- 01 Status 2 to 4 and 15: by the time, 3, 1 or 2
 unfoldable pub timeStatus : ℕ → ℕ → ℕ
-timeStatus now time = firstOf (cond (ltb lastTime time) 3 0 ∷ cond (ltb time now) 1 0 ∷ cond (ltb (now + longestStep) time) 2 0 ∷ [])
+timeStatus now time = firstRefusal ((ltb lastTime time, 3) ∷ (ltb time now, 1) ∷ (ltb (now + longestStep) time, 2) ∷ [])
 
 -- 01 Status 15: what is judged without the state: 4, 5 or 6 by the fields, then by the time
 abbrev pub earlyStatus : ℕ → ℕ → Event → ℕ
-earlyStatus n now e = firstOf (fieldStatusOf n e ∷ timeStatus now (e .time) ∷ [])
+earlyStatus n now e = firstRefusal (given (fieldStatusOf n e) ∷ given (timeStatus now (e .time)) ∷ [])

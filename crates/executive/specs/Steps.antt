@@ -8,7 +8,7 @@ use Rattle.account.specs.declared.Account.{Account}
 use Rattle.account.specs.Rules.{blocking, waking}
 use Rattle.ready.specs.Lists.{appended, removed, moved}
 use Rattle.ready.specs.Word.{highestOf}
-use Rattle.passing.specs.Sequence.{firstOf}
+use Rattle.base.specs.Refusals.{firstRefusal, given}
 use Rattle.state.specs.declared.Thread.{Thread}
 use Rattle.state.specs.State.{isBlocked, placeOf}
 use Rattle.events.specs.Effects.{fullQuantum, ifSporadic, renewed, newAccount, byKind}
@@ -19,7 +19,7 @@ use Rattle.state.specs.Updates.{withBlocked}
 
 -- 01 Status 15: the status of an event for a sound state; `blocked`: whether the thread it names is
 abbrev pub soundStatus : ℕ → ℕ → ℕ → Bool → Event → ℕ
-soundStatus n now word blocked e = firstOf (earlyStatus n now e ∷ stateStatusOf (e .kind) (eqb (highestOf word) 0) blocked ∷ [])
+soundStatus n now word blocked e = firstRefusal (given (earlyStatus n now e) ∷ given (stateStatusOf (e .kind) (eqb (highestOf word) 0) blocked) ∷ [])
 
 -- 01 Events 3 to 6: the thread that an event concerns and its account, and the lists that it leaves and joins, 0 for none
 unfoldable pub changeOf : Event → Thread → Account → Change

@@ -16,7 +16,7 @@ pub(super) fn answer_of(status: u8, s: State) -> Answer
 {
     let p = ready::highest(s.word);
     let h = ticks::head_at(&s.lists, p);
-    let i = parts::wide(h);
+    let i = base::wide(h);
     let t = s.threads[i];
     let n = s.header.n as usize;
     let runs = ticks::running(s.word, &s.lists);

@@ -107,7 +107,7 @@ fn run(mut s: State, e: Event, known: bool) -> Answer
         let n = s.header.n as usize;
         let p = ready::highest(s.word);
         let h = ticks::head_at(&s.lists, p);
-        let i = parts::wide(h);
+        let i = base::wide(h);
         let runner = s.threads[i];
         let next = ticks::next_moment(s.now, p, runner, &s.counts, &s.dues, n);
         if done {
@@ -134,7 +134,7 @@ fn run(mut s: State, e: Event, known: bool) -> Answer
             continue;
         }
         let number = effects::concerned(e.kind, e.thread, h);
-        let j = parts::wide(number);
+        let j = base::wide(number);
         let t = s.threads[j];
         let q = rows::pending_at(&s.counts, &s.dues, &s.amounts, j);
         let v = t.server;

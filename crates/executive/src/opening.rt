@@ -4,7 +4,7 @@ ghost use mathlib.Core.Bool.{false, cond, _&&_};
 ghost use Prim.Native.Nat.{_<_, _≤_};
 ghost use lib.Dec.{leb, eqb};
 ghost use lib.ListN.{length, getD};
-ghost use Rattle.records.specs.Tests.{below};
+ghost use Rattle.base.specs.Tests.{below};
 ghost use Rattle.records.specs.Ranges.{inRange, noParameters};
 ghost use Rattle.ready.specs.Word.{occupancy};
 ghost use Rattle.ready.specs.Rules.{Joinable};
@@ -129,7 +129,7 @@ fn enter(s: State, k: u8, p: Parameters) -> State
         × (eqb (p .flag) 0 ≡ false → Joinable (s .word) (p .priority) (s .lists)) ⌝ }
     ensures { λ r. ⌜ r ≡ entered k p s ⌝ }
 {
-    let i = parts::wide(k);
+    let i = base::wide(k);
     let q = without_flag(p);
     let none = s.threads[i];
     let t = parts::with_blocked(starts_blocked(p.flag), none);

@@ -3,8 +3,7 @@ ghost use mathlib.Core.Path.{_≡_};
 ghost use mathlib.Core.Bool.{true, false, cond, not, _&&_};
 ghost use lib.Dec.{leb, eqb};
 ghost use Prim.Native.Nat.{_+_, _<_, _^_};
-ghost use Rattle.records.specs.Tests.{byPolicy};
-ghost use Rattle.records.specs.Ranges.{inRange, allZero};
+ghost use Rattle.records.specs.Ranges.{byPolicy, inRange, allZero};
 ghost use Rattle.account.specs.Rules.{blocking, waking};
 ghost use Rattle.events.specs.Effects.{fullQuantum, ifSporadic, renewed, newAccount};
 ghost use Rattle.events.specs.Answers.{fieldStatusOf, stateStatusOf};
@@ -15,13 +14,6 @@ use account::Server;
 use records::Event;
 use records::Parameters;
 use state::Thread;
-
-// A thread's number as an index.
-pub(super) fn wide(x: u8) -> usize
-    ensures { λ r. ⌜ r ≡ x ⌝ }
-{
-    x as usize
-}
 
 // A thread's number as an index that never strays; 0 where there is no such place.
 pub(super) fn index(x: u8) -> usize

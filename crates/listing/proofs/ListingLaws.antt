@@ -8,7 +8,7 @@ use lib.Dec.{leb, eqb}
 use lib.ListN.{length, take, drop}
 use lib.Seq.{take-at, length-take-le}
 use borrow.Author.Tests.{lt-ltb, le-ltb, le-leb, lt-leb, leb-true, eq-eqb, ne-eqb}
-use Rattle.records.proofs.TestLaws.{cond-elim, cond-true, cond-false}
+use Rattle.base.proofs.TestLaws.{cond-elim, cond-true, cond-false}
 use Rattle.state.specs.declared.State.{State}
 use Rattle.text.specs.Placed.{placed, Put}
 use Rattle.text.proofs.PlacedLaws.{after}

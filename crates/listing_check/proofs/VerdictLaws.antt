@@ -8,7 +8,7 @@ use lib.Dec.{leb, eqb}
 use lib.ListN.{length, take, drop}
 use lib.Seq.{take-at, length-take-le}
 use borrow.Author.Tests.{eqb-true, eqb-false}
-use Rattle.records.proofs.TestLaws.{cond-true, cond-false}
+use Rattle.base.proofs.TestLaws.{cond-true, cond-false}
 use Rattle.text_lines.specs.Lines.{newline, linesOf, differenceFrom, firstDifference}
 use Rattle.text_lines.proofs.LineLaws.{no-difference, next-both, byte-apart, end-first}
 use Rattle.replay_steps.specs.declared.Begun.{Begun}

@@ -8,7 +8,7 @@ use lib.Seq.{set-set}
 use lib.Dec.{eqb}
 use native.Mathlib.Omega.{arith}
 use borrow.Author.Tests.{eqb-true, eqb-false}
-use Rattle.records.proofs.TestLaws.{tests, cond-true, cond-false}
+use Rattle.base.proofs.TestLaws.{tests, cond-true, cond-false}
 use Rattle.account.specs.declared.Effect.{Effect}
 use Rattle.account.specs.Rules.{pendingAfter, Room, Schedulable, limitEffect, returnEffect, returnFirst}
 use Rattle.account.proofs.EffectLaws.{limit-keeps, limit-room, return-room}

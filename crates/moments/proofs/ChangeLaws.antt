@@ -9,8 +9,8 @@ use lib.Dec.{ltb, eqb}
 use native.Mathlib.Omega.{arith}
 use native.Mathlib.Decide.{ℕ-discrete}
 use borrow.Author.Tests.{eq-eqb, ne-eqb}
-use Rattle.records.proofs.TestLaws.{tests, All, cond-true, cond-false}
-use Rattle.records.proofs.PartLaws.{replaced-length, replaced-at, replaced-before, replaced-after}
+use Rattle.base.proofs.TestLaws.{tests, All, cond-true, cond-false}
+use Rattle.base.proofs.PartLaws.{replaced-length, replaced-at, replaced-before, replaced-after}
 use Rattle.account.specs.declared.Account.{Account}
 use Rattle.ready.specs.Word.{occupancy}
 use Rattle.ready.proofs.Soundness.{ListsSound}

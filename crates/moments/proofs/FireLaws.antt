@@ -9,7 +9,8 @@ use native.Mathlib.Omega.{arith}
 use native.Mathlib.Decide.{ℕ-discrete}
 use borrow.Author.Tests.{eqb-true, eq-eqb, ne-eqb, lt-ltb, le-ltb, ltb-false}
 use Rattle.records.specs.declared.Header.{Header}
-use Rattle.records.proofs.TestLaws.{tests, All, cond-elim, policy-elim, cond-true, cond-false, false-true}
+use Rattle.base.proofs.TestLaws.{tests, All, cond-elim, cond-true, cond-false, false-true}
+use Rattle.records.proofs.PolicyLaws.{policy-elim}
 use Rattle.account.specs.declared.Server.{Server}
 use Rattle.account.specs.declared.Pending.{Pending}
 use Rattle.account.specs.declared.Account.{Account}

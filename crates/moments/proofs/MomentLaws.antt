@@ -7,8 +7,8 @@ use lib.Dec.{ltb, eqb}
 use native.Mathlib.Omega.{arith}
 use native.Mathlib.Decide.{ℕ-discrete}
 use Rattle.records.specs.declared.Header.{Header}
-use Rattle.records.specs.Tests.{byPolicy}
-use Rattle.records.proofs.TestLaws.{cond-true, cond-false, false-true}
+use Rattle.records.specs.Ranges.{byPolicy}
+use Rattle.base.proofs.TestLaws.{cond-true, cond-false, false-true}
 use Rattle.passing.specs.Time.{moment}
 use Rattle.passing.proofs.TimeLaws.{Laws}
 use Rattle.state.specs.declared.Thread.{Thread}

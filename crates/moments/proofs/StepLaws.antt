@@ -10,7 +10,7 @@ use native.Mathlib.Omega.{arith}
 use native.Mathlib.Decide.{ℕ-discrete}
 use borrow.Author.Tests.{eq-eqb, ltb-true}
 use Rattle.records.specs.declared.Parameters.{Parameters}
-use Rattle.records.proofs.TestLaws.{tests, All, cond-true, cond-false}
+use Rattle.base.proofs.TestLaws.{tests, All, cond-true, cond-false}
 use Rattle.account.specs.declared.Server.{Server}
 use Rattle.account.specs.declared.Pending.{Pending}
 use Rattle.account.specs.declared.Effect.{Effect}

@@ -12,8 +12,9 @@ use native.Mathlib.Omega.{arith}
 use native.Mathlib.Decide.{ℕ-discrete}
 use borrow.Author.Tests.{lt-ltb, le-leb, lt-leb, ltb-true, ltb-false}
 use Rattle.records.specs.declared.Header.{Header}
-use Rattle.records.specs.Tests.{byPolicy}
-use Rattle.records.proofs.TestLaws.{tests, cond-elim, cond-true, cond-false, policy-elim}
+use Rattle.records.specs.Ranges.{byPolicy}
+use Rattle.base.proofs.TestLaws.{tests, cond-elim, cond-true, cond-false}
+use Rattle.records.proofs.PolicyLaws.{policy-elim}
 use Rattle.account.specs.declared.Pending.{Pending}
 use Rattle.account.specs.declared.Effect.{Effect}
 use Rattle.account.specs.Rules.{charged, countAfter, slotsAfter, applied, limitEffect, firstIsDue, returnFirst}

@@ -3,7 +3,7 @@ use Prim.Native.Nat.{ℕ, zero, suc}
 use mathlib.Core.Bool.{false, cond, _&&_}
 use lib.ListN.{getD}
 use lib.Dec.{eqb}
-use Rattle.records.specs.Tests.{byPolicy}
+use Rattle.records.specs.Ranges.{byPolicy}
 use Rattle.account.specs.Rules.{limitEffect, firstIsDue, returnFirst}
 use Rattle.ready.specs.Lists.{moved}
 use Rattle.passing.specs.Time.{Clock, advance}

@@ -20,6 +20,7 @@ ghost use Rattle.state.specs.Updates.{withLeft};
 use account::ENTRIES;
 use account::Effect;
 use account::Place;
+use base::wide;
 use records::Parameters;
 use rows::SLOTS;
 use state::State;
@@ -79,13 +80,7 @@ fn send(lists: &mut [u8; 1056], word: u32, i: u8, p: Parameters, x: Place) -> u3
     }
 }
 
-// A thread's number as an index, and back.
-fn wide(x: u8) -> usize
-    ensures { λ r. ⌜ r ≡ x ⌝ }
-{
-    x as usize
-}
-
+// An index as a thread's number.
 fn narrow(x: usize) -> u8
     requires { ⌜ x < 256 ⌝ }
     ensures { λ r. ⌜ r ≡ x ⌝ }

@@ -6,7 +6,8 @@ use mathlib.Core.List.{List, [], _∷_, map}
 use lib.Dec.{ltb, leb, eqb}
 use native.Mathlib.Omega.{arith}
 use Rattle.passing.specs.Time.{Clock, run}
-use Rattle.passing.specs.Sequence.{Machine, Answer, firstOf, status, answer, answers}
+use Rattle.base.specs.Refusals.{firstRefusal}
+use Rattle.passing.specs.Sequence.{Machine, Answer, status, answer, answers}
 use Rattle.passing.specs.Readings.{Entry, Placed}
 
 -- ticks left up to the next moment, 0 once it is stopped
@@ -82,14 +83,14 @@ sound-rows : Computed fresh
     ∷ row 51 1 2 255 0  -- too far, which comes before not running
     ∷ row 40 0 0 255 0  -- no moment once it is stopped
     ∷ [])
-unfolding run firstOf status answer
+unfolding run firstRefusal status answer
 sound-rows = refl
 
 unsound-rows : Computed (record { now = 0; left = 6; period = 5 })
     (row 1 0 9 255 0  -- more ticks left than the period
     ∷ row 1001 2 9 255 0  -- which comes before all else
     ∷ [])
-unfolding run firstOf status answer
+unfolding run firstRefusal status answer
 unsound-rows = refl
 
 -- A row: the times of extra clock readings, and the time and the kind of the request that they stand before.
@@ -101,7 +102,7 @@ fifth = record { now = 5; left = 5; period = 5 }
 
 -- from the time now up to the request's time
 placed-row : Placed timer fifth fifth (before (5 ∷ 6 ∷ 6 ∷ 7 ∷ []) 7 0)
-unfolding run firstOf status answer
+unfolding run firstRefusal status answer
 placed-row = ((omega arith, (omega arith, (omega arith, (omega arith, (omega arith, omega arith))))), tt)
 
 -- a tick before the time now
@@ -114,5 +115,5 @@ late-row h = omega (arith, h .0 .1 .1)
 
 -- before a request that is refused: there is no such kind
 refused-row : Placed timer fifth fifth (before (6 ∷ []) 7 2) → ⊥
-unfolding run firstOf status answer
+unfolding run firstRefusal status answer
 refused-row h = omega (arith, h .0 .0)

@@ -7,7 +7,8 @@ use lib.Dec.{ltb, leb}
 use native.Mathlib.Omega.{arith}
 use borrow.Author.Tests.{ltb-true, leb-true, lt-ltb, le-ltb, le-leb}
 use Rattle.passing.specs.Time.{run, moment}
-use Rattle.passing.specs.Sequence.{firstOf, status, answer}
+use Rattle.base.specs.Refusals.{firstRefusal}
+use Rattle.passing.specs.Sequence.{status, answer}
 use Rattle.passing.specs.Readings.{Entry, Placed, SameAnswers}
 use Rattle.passing.proofs.TimeLaws.{Laws}
 use Rattle.passing.proofs.ReadingsLaws.{MachineLaws, extra-readings}
@@ -77,7 +78,7 @@ entries =
     ∷ []
 
 placed : Placed timer fresh fresh entries
-unfolding run firstOf status answer entries
+unfolding run firstRefusal status answer entries
 placed = ((refl, omega arith), (tt, ((refl, omega arith), tt)))
 
 placed-same : SameAnswers timer fresh entries

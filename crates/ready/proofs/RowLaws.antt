@@ -9,9 +9,9 @@ use lib.Seq.{set-at, set-append-left, append-snoc, length-take-le, take-at, take
 use lib.Seq.{drop-append-add, take-append-seam, drop-append-seam, take-length, drop-length, drop-drop, getD-take, getD-drop}
 use lib.Dec.{ltb, eqb}
 use borrow.Author.Tests.{ltb-true, ltb-false}
-use Rattle.records.specs.Tests.{all, zeros}
-use Rattle.records.proofs.PartLaws.{replaced-same, replaced-length, replaced-at, replaced-before, replaced-after}
-use Rattle.records.proofs.TestLaws.{All, all-true, zeros-eq, zeros-replicate}
+use Rattle.base.specs.Tests.{all, zeros}
+use Rattle.base.proofs.PartLaws.{replaced-same, replaced-length, replaced-at, replaced-before, replaced-after}
+use Rattle.base.proofs.TestLaws.{All, all-true, zeros-eq, zeros-replicate}
 use Rattle.ready.specs.Lists.{start, rowAt, size, members, unused, rowOf, threads, headOf, withThreads, insertAt, without, appended, removed, occurs}
 use Rattle.ready.specs.Word.{sizeAt}
 use Rattle.ready.specs.Rules.{Formed}

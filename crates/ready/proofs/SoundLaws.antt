@@ -9,7 +9,7 @@ use lib.ListN.{length, getD, take, drop, replicate, length-replicate, replicate-
 use lib.Seq.{take-at, drop-at}
 use lib.Dec.{ltb, eqb}
 use borrow.Author.Tests.{eq-eqb, ne-eqb, eqb-true}
-use Rattle.records.proofs.TestLaws.{tests, All, true-all, zeros-replicate}
+use Rattle.base.proofs.TestLaws.{tests, All, true-all, zeros-replicate}
 use Rattle.ready.specs.Lists.{start, rowAt, size, threads, withThreads, insertAt, without, headOf, appended, removed, moved, occurs}
 use Rattle.ready.specs.Word.{sizeAt, occupancy, highestOf, highestList}
 use Rattle.ready.specs.Rules.{Held, Formed, Joinable, Leavable, Movable}

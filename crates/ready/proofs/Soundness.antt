@@ -8,8 +8,8 @@ use native.Mathlib.Decide.{ℕ-discrete}
 use lib.ListN.{length}
 use lib.Dec.{leb, eqb}
 use borrow.Author.Tests.{eq-eqb, ne-eqb, eqb-true, leb-true, le-leb}
-use Rattle.records.specs.Tests.{zeros}
-use Rattle.records.proofs.TestLaws.{All, all-true, true-all, below-at, at-below}
+use Rattle.base.specs.Tests.{zeros}
+use Rattle.base.proofs.TestLaws.{All, all-true, true-all, below-at, at-below}
 use Rattle.ready.specs.Lists.{rowAt, size, members, unused, occurs}
 use Rattle.ready.specs.Word.{occupancy}
 use Rattle.ready.specs.Sound.{small, soundRow, soundRows, soundLists}

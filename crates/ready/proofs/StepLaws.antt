@@ -9,7 +9,7 @@ use native.Mathlib.Omega.{arith}
 use lib.ListN.{length, set, take, drop, getD, length-append, length-take, length-drop, take-append-drop}
 use lib.Seq.{drop-cons, take-suc, set-at, getD-append-add, getD-drop}
 use borrow.Author.Tests.{eq-eqb, ne-eqb}
-use Rattle.records.specs.Tests.{all, zeros}
+use Rattle.base.specs.Tests.{all, zeros}
 use Rattle.ready.specs.Steps.{indexOf, closed, strikes, struck}
 
 -- ---- from place j of a list on

@@ -9,8 +9,8 @@ use lib.ListN.{length, set, getD, length-set, List·getD-eq-default}
 use lib.Seq.{getD-set-other}
 use lib.Dec.{ltb, leb, eqb}
 use borrow.Author.Tests.{eq-eqb, ne-eqb, eqb-true, leb-true, le-leb, lt-ltb}
-use Rattle.records.specs.Tests.{all, zeros}
-use Rattle.records.proofs.TestLaws.{tests, All, all-true, true-all, false-true}
+use Rattle.base.specs.Tests.{all, zeros}
+use Rattle.base.proofs.TestLaws.{tests, All, all-true, true-all, false-true}
 use Rattle.ready.specs.Lists.{rowAt, size, members, unused, occurs}
 use Rattle.ready.specs.Sound.{small}
 use Rattle.ready.specs.Steps.{strikes, struck}

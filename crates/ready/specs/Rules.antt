@@ -4,7 +4,7 @@ use mathlib.Core.Bool.{true}
 use mathlib.Core.List.{List}
 use Prim.Native.Nat.{ℕ, _≤_, _<_}
 use lib.ListN.{length}
-use Rattle.records.specs.Tests.{all, zeros}
+use Rattle.base.specs.Tests.{all, zeros}
 use Rattle.ready.specs.Lists.{rowAt, unused, threads, occurs, removed}
 use Rattle.ready.specs.Word.{sizeAt, occupancy}
 

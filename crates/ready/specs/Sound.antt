@@ -5,7 +5,7 @@ use mathlib.Core.List.{List, [], _∷_}
 use Prim.Native.Nat.{ℕ, suc}
 use lib.ListN.{length}
 use lib.Dec.{ltb, leb, eqb}
-use Rattle.records.specs.Tests.{all, below, zeros}
+use Rattle.base.specs.Tests.{all, below, zeros}
 use Rattle.ready.specs.Lists.{rowAt, size, members, unused, occurs}
 use Rattle.ready.specs.Word.{occupancy}
 

@@ -5,7 +5,7 @@ use mathlib.Core.List.{List, [], _∷_, _++_}
 use Prim.Native.Nat.{ℕ, suc, _+_, _-_}
 use lib.ListN.{take, drop, set, getD}
 use lib.Dec.{leb, eqb}
-use Rattle.records.specs.Tests.{all, zeros}
+use Rattle.base.specs.Tests.{all, zeros}
 use Rattle.ready.specs.Lists.{size, members, unused}
 
 -- how many numbers stand before the first i

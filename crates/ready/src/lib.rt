@@ -5,18 +5,13 @@
 ghost use mathlib.Core.Path.{_≡_};
 ghost use Prim.Native.Nat.{_+_, _-_, _^_, _≤_, _<_};
 ghost use lib.ListN.{length, getD, take, drop, replicate};
-ghost use Rattle.records.specs.Tests.{all, zeros};
+ghost use Rattle.base.specs.Tests.{all, zeros};
 ghost use Rattle.ready.specs.Lists.{start, headOf, appended, removed, moved};
 ghost use Rattle.ready.specs.Word.{occupancy, highestOf};
 ghost use Rattle.ready.specs.Rules.{Held, Joinable, Leavable, Movable};
 ghost use Rattle.ready.specs.Sound.{soundLists, soundRows};
 ghost use Rattle.ready.specs.Steps.{indexOf, closed, Struck, RowStruck};
-
-fn wide(x: u8) -> usize
-    ensures { λ r. ⌜ r ≡ x ⌝ }
-{
-    x as usize
-}
+use base::wide;
 
 // Where the row of list p starts.
 fn row_start(p: u8) -> usize

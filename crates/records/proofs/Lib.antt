@@ -1,3 +1,2 @@
 -- Laws that the crates above use.
-pub mod PartLaws
-pub mod TestLaws
+pub mod PolicyLaws

@@ -1,3 +1,2 @@
 -- What a reader of `records` must believe.
-pub mod Tests
 pub mod Ranges

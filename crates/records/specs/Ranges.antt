@@ -1,10 +1,10 @@
 -- The ranges of 01's section Numbers, and when parameters are in range.
 use mathlib.Core.Bool.{Bool}
 use mathlib.Core.List.{[], _∷_}
-use Prim.Native.Nat.{ℕ}
+use Prim.Native.Nat.{ℕ, zero, suc}
 use lib.Dec.{ltb, leb, eqb}
 use Rattle.records.specs.declared.Parameters.{Parameters}
-use Rattle.records.specs.Tests.{all, byPolicy}
+use Rattle.base.specs.Tests.{all}
 
 -- 01 Numbers 1: at most 32 threads; thread numbers start at 0
 abbrev pub mostThreads : ℕ
@@ -29,6 +29,12 @@ lastTime = 1000000000000000
 -- 01 Numbers 6: how far an accepted event may be after the time now
 abbrev pub longestStep : ℕ
 longestStep = 1000000
+
+-- by the number of a policy: 0 is SCHED_FIFO, 1 SCHED_RR, and any other SCHED_SPORADIC
+abbrev pub byPolicy : {A : Type 0} → ℕ → A → A → A → A
+byPolicy zero fifo rr sporadic = fifo
+byPolicy (suc zero) fifo rr sporadic = rr
+byPolicy (suc (suc n)) fifo rr sporadic = sporadic
 
 -- 01 Numbers 10: SCHED_FIFO uses no parameter but the priority
 unfoldable pub fifoInRange : Parameters → Bool

@@ -6,7 +6,7 @@ use lib.ListN.{length, take, drop, getD, set, replicate, length-drop}
 use lib.Seq.{paste, paste-suc, take-all, getD-take, getD-drop, take-set-le, take-set-lt, drop-set-lt, drop-set-add, length-take-le}
 use native.Mathlib.Numerals.{add-one}
 use native.Mathlib.Omega.{arith}
-use Rattle.records.proofs.PartLaws.{replaced-same}
+use Rattle.base.proofs.PartLaws.{replaced-same}
 use Rattle.rows.specs.Rows.{slotsAt, withSlots}
 
 -- the first j slots are read, and the others are still 0

@@ -8,9 +8,9 @@ use lib.Dec.{ltb, leb, eqb}
 use native.Mathlib.Omega.{arith}
 use borrow.Author.Tests.{eqb-true, eq-eqb}
 use Rattle.records.specs.declared.Parameters.{Parameters}
-use Rattle.records.specs.Tests.{all, zeros, byPolicy}
-use Rattle.records.specs.Ranges.{inRange, allZero, fifoInRange, rrInRange, sporadicInRange, noParameters}
-use Rattle.records.proofs.TestLaws.{tests, All, all-true, true-all, below-at, at-below, zeros-eq, cond-true, cond-false}
+use Rattle.base.specs.Tests.{all, zeros}
+use Rattle.records.specs.Ranges.{byPolicy, inRange, allZero, fifoInRange, rrInRange, sporadicInRange, noParameters}
+use Rattle.base.proofs.TestLaws.{tests, All, all-true, true-all, below-at, at-below, zeros-eq, cond-true, cond-false}
 use Rattle.account.specs.declared.Server.{Server}
 use Rattle.account.specs.declared.Pending.{Pending}
 use Rattle.account.specs.Sound.{soundAt, runsUpper}

@@ -7,8 +7,9 @@ use lib.Dec.{eqb}
 use native.Mathlib.Numerals.{add-one}
 use native.Mathlib.Omega.{arith}
 use borrow.Author.Tests.{eq-eqb, ne-eqb, eqb-true, eqb-false, not-true, not-false}
-use Rattle.records.specs.Tests.{all, below, byPolicy}
-use Rattle.records.proofs.TestLaws.{All, false-true, all-one, below-at}
+use Rattle.base.specs.Tests.{all, below}
+use Rattle.records.specs.Ranges.{byPolicy}
+use Rattle.base.proofs.TestLaws.{All, false-true, all-one, below-at}
 
 -- the answer r of a function that decides t, in `if !r`
 pub decided-true : {t : Bool} (r : Bool) → r ≡ t → not r ≡ false → t ≡ true

@@ -4,8 +4,8 @@ use mathlib.Core.Bool.{Bool, cond}
 use mathlib.Core.List.{List, [], _∷_}
 use lib.ListN.{length}
 use lib.Dec.{ltb, leb, eqb}
-use Rattle.records.specs.Tests.{all, below, zeros, byPolicy}
-use Rattle.records.specs.Ranges.{mostThreads, mostReplenishments, lastTime, inRange, allZero}
+use Rattle.base.specs.Tests.{all, below, zeros}
+use Rattle.records.specs.Ranges.{byPolicy, mostThreads, mostReplenishments, lastTime, inRange, allZero}
 use Rattle.account.specs.declared.Server.{Server}
 use Rattle.account.specs.declared.Pending.{Pending}
 use Rattle.account.specs.Sound.{soundAt}

@@ -3,8 +3,7 @@ use Prim.Native.Nat.{ℕ}
 use mathlib.Core.Bool.{Bool, cond}
 use lib.ListN.{getD}
 use lib.Dec.{ltb}
-use Rattle.records.specs.Tests.{byPolicy}
-use Rattle.records.specs.Ranges.{noParameters}
+use Rattle.records.specs.Ranges.{byPolicy, noParameters}
 use Rattle.account.specs.declared.Server.{Server}
 use Rattle.account.specs.declared.Pending.{Pending}
 use Rattle.account.specs.declared.Account.{Account}

@@ -3,7 +3,7 @@ ghost use mathlib.Core.Path.{_≡_};
 ghost use mathlib.Core.Bool.{cond};
 ghost use Prim.Native.Nat.{_<_};
 ghost use lib.ListN.{length};
-ghost use Rattle.records.specs.Tests.{all, zeros};
+ghost use Rattle.base.specs.Tests.{all, zeros};
 ghost use Rattle.rows.specs.Rows.{slotsAt, pendingOf};
 ghost use Rattle.state.specs.Sound.{noAccountTests, leftTests, accountTest, presentTest, absentTest};
 use super::Thread;

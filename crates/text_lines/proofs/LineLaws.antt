@@ -9,7 +9,7 @@ use lib.ListN.{length, take, drop, getD, length-take, drop-of-length-le}
 use lib.Seq.{drop-cons}
 use native.Mathlib.Numerals.{add-one}
 use borrow.Author.Tests.{eq-eqb, ne-eqb, eqb-true, eqb-false}
-use Rattle.records.proofs.TestLaws.{cond-elim, false-true}
+use Rattle.base.proofs.TestLaws.{cond-elim, false-true}
 use Rattle.text_lines.specs.Lines.{newline, before, linesOf, lineLength, equal, startsWith, differenceFrom, firstDifference, NoDifference}
 
 pub equal-refl : (s : List ℕ) → equal s s ≡ true

@@ -9,8 +9,8 @@ use lib.Dec.{leb, eqb}
 use lib.ListN.{length, take, drop, getD, length-append, length-drop, drop-of-length-le, take-append-drop, List·getD-append, List·getD-eq-default, replicate, set, length-set}
 use lib.Seq.{drop-cons, take-suc, take-add, take-at, drop-at, getD-at, length-take-le, split-at, append-snoc, getD-take, drop-drop, take-suc-set, drop-set-lt}
 use borrow.Author.Tests.{le-leb, lt-leb, leb-true, leb-false, eq-eqb, ne-eqb, eqb-true, eqb-false}
-use Rattle.records.specs.Tests.{all}
-use Rattle.records.proofs.TestLaws.{all-true, true-all, all-false, cond-elim, false-true, all-one}
+use Rattle.base.specs.Tests.{all}
+use Rattle.base.proofs.TestLaws.{all-true, true-all, all-false, cond-elim, false-true, all-one}
 use Rattle.text.specs.Decimal.{decimal, readFrom}
 use Rattle.text.proofs.DecimalLaws.{small, large, read-more, reads-back, no-leading-zero, every}
 use Rattle.text_lines.specs.declared.Number.{Number}

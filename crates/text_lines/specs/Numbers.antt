@@ -5,7 +5,7 @@ use mathlib.Core.List.{List, [], _∷_, _++_}
 use mathlib.Core.Path.{_≡_}
 use lib.Dec.{leb, eqb}
 use lib.ListN.{length, take, drop, getD, replicate}
-use Rattle.records.specs.Tests.{all}
+use Rattle.base.specs.Tests.{all}
 use Rattle.text.specs.Decimal.{decimal, readFrom}
 use Rattle.text_lines.specs.declared.Number.{Number}
 use Rattle.text_lines.specs.declared.Number.the-variants as number

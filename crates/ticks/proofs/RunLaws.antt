@@ -5,8 +5,8 @@ use mathlib.Core.Path.{_≡_, refl, sym, _∙_}
 use lib.Dec.{eqb}
 use native.Mathlib.Omega.{arith}
 use borrow.Author.Tests.{eq-eqb, ne-eqb}
-use Rattle.records.specs.Tests.{byPolicy}
-use Rattle.records.proofs.TestLaws.{cond-true, cond-false}
+use Rattle.records.specs.Ranges.{byPolicy}
+use Rattle.base.proofs.TestLaws.{cond-true, cond-false}
 use Rattle.account.specs.declared.Server.{Server}
 use Rattle.account.specs.Rules.{charged}
 use Rattle.state.specs.declared.Thread.{Thread}

@@ -9,7 +9,7 @@ use native.Mathlib.Omega.{arith}
 use native.Mathlib.Numerals.{add-one}
 use native.Mathlib.Decide.{ℕ-discrete}
 use borrow.Author.Tests.{eq-eqb, ne-eqb, le-ltb}
-use Rattle.records.proofs.TestLaws.{cond-false}
+use Rattle.base.proofs.TestLaws.{cond-false}
 use Rattle.ticks.specs.declared.Due.{Due}
 use Rattle.ticks.specs.Running.{sooner, nextDue, NoneBefore}
 

@@ -5,8 +5,7 @@ use mathlib.Core.Path.{_≡_}
 use mathlib.Core.List.{List}
 use lib.ListN.{getD, set}
 use lib.Dec.{ltb, eqb}
-use Rattle.records.specs.Tests.{byPolicy}
-use Rattle.records.specs.Ranges.{mostThreads}
+use Rattle.records.specs.Ranges.{byPolicy, mostThreads}
 use Rattle.account.specs.Account.{entries}
 use Rattle.account.specs.Rules.{charged}
 use Rattle.ready.specs.Lists.{headOf}

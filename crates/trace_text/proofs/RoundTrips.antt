@@ -11,7 +11,7 @@ use Rattle.records.specs.declared.Parameters.{Parameters}
 use Rattle.records.specs.declared.Event.{Event}
 use Rattle.records.specs.declared.Header.{Header}
 use Rattle.records.specs.Ranges.{noParameters}
-use Rattle.records.proofs.TestLaws.{true-all, at-below, below-at, cond-elim, false-true}
+use Rattle.base.proofs.TestLaws.{true-all, at-below, below-at, cond-elim, false-true}
 use Rattle.little_endian.specs.LittleEndian.{Bytes}
 use Rattle.text_lines.specs.Lines.{linesOf}
 use Rattle.text_lines.proofs.LineLaws.{joinedLines, lines-joined, line-ended}
@@ -23,10 +23,11 @@ use Rattle.trace_records.specs.Layout.{threadOffset, eventOffset, totalOf}
 use Rattle.trace_records.specs.Records.{fieldsOf, headerBytes, parametersAt, parametersBytes, eventAt, eventBytes, noEvent, ParametersFit, EventFits}
 use Rattle.trace_contents.specs.declared.Contents.{Contents}
 use Rattle.trace_contents.specs.Lists.{listOf}
-use Rattle.trace_contents.specs.Read.{firstRefusal, readStatus, tableOf, contentsOf, countRight}
-use Rattle.trace_contents.specs.Read.{eventsOf as fileEvents}
+use Rattle.trace_contents.specs.Read.{readStatus, tableOf, contentsOf, countRight, eventsOf as fileEvents}
+use Rattle.base.specs.Refusals.{firstRefusal}
 use Rattle.trace_contents.proofs.ListLaws.{length-list, list-at, list-same}
-use Rattle.trace_contents.proofs.ReadLaws.{passed, past, refused-at, accepted, contents, contents-accepted, contents-status}
+use Rattle.trace_contents.proofs.ReadLaws.{accepted, contents, contents-accepted, contents-status}
+use Rattle.base.proofs.RefusalLaws.{passed, past, refused-at}
 use Rattle.trace_reader.specs.Reader.{firstOffset, eventsFrom, arrayOf}
 use Rattle.trace_reader.proofs.ReaderLaws.{all-accepted}
 use Rattle.trace.specs.Write.{writeRefusals, writeStatus, fileOf, threadsBytes, eventsBytes, firstThreads}

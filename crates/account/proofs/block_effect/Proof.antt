@@ -1,6 +1,6 @@
 -- `account::block_effect` meets its contract.
 use mathlib.Core.Path.{sym, _∙_}
-use Rattle.records.proofs.TestLaws.{cond-true, cond-false}
+use Rattle.base.proofs.TestLaws.{cond-true, cond-false}
 use borrow.Author.Needs.{needs}
 use Rattle.account.proofs.block_effect.Statement.{statement}
 use Rattle.account.proofs.block_effect.Tie as tie

@@ -3,7 +3,7 @@ use Prim.Native.Nat.{_-_}
 use mathlib.Core.Path.{sym}
 use native.Mathlib.Omega.{arith}
 use borrow.Author.Tests.{lt-leb}
-use Rattle.records.proofs.TestLaws.{leb-same}
+use Rattle.base.proofs.TestLaws.{leb-same}
 use Rattle.account.specs.Rules.{dueOf}
 use Rattle.account.proofs.due_by.Statement.{statement}
 use Rattle.account.proofs.due_by.Tie as tie

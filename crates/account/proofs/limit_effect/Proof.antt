@@ -2,7 +2,7 @@
 use Rattle.account.specs.Rules.{atLimit, raised, limitEffect}
 use Rattle.account.specs.declared.Effect.{Effect}
 use Rattle.account.specs.declared.Place.the-variants.{LowThenUpper}
-use Rattle.records.proofs.TestLaws.{cond-true, cond-false}
+use Rattle.base.proofs.TestLaws.{cond-true, cond-false}
 use borrow.Author.Tests.{eq-eqb, ne-eqb}
 use native.Mathlib.Omega.{arith}
 use lib.Dec.{ltb, eqb}

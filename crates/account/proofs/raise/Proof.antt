@@ -1,5 +1,5 @@
 -- `account::raise` meets its contract.
-use Rattle.records.proofs.TestLaws.{cond-true}
+use Rattle.base.proofs.TestLaws.{cond-true}
 use Rattle.account.specs.Rules.{sent}
 use Rattle.account.specs.declared.Server.{Server}
 use mathlib.Core.Path.{sym, ap, _∙_}

@@ -2,7 +2,7 @@
 use Rattle.account.specs.Rules.{firstIsDue, returnFirst}
 use Rattle.account.specs.declared.Place.the-variants.{Stays}
 use Rattle.account.specs.declared.Effect.{Effect}
-use Rattle.records.proofs.TestLaws.{cond-true, cond-false}
+use Rattle.base.proofs.TestLaws.{cond-true, cond-false}
 use mathlib.Core.Path.{sym, ap, _∙_}
 use borrow.Author.Needs.{needs}
 use Rattle.account.proofs.return_due.Statement.{statement}

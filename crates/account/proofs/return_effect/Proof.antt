@@ -2,7 +2,7 @@
 use Rattle.account.specs.Rules.{raised, returnEffect}
 use Rattle.account.specs.declared.Place.the-variants.{Stays, Upper}
 use Rattle.account.specs.declared.Server.{Server}
-use Rattle.records.proofs.TestLaws.{cond-true, cond-false}
+use Rattle.base.proofs.TestLaws.{cond-true, cond-false}
 use borrow.Author.Tests.{eq-eqb, ne-eqb}
 use mathlib.Core.Bool.{Bool, true, not, _&&_}
 use mathlib.Core.Path.{sym, ap, ap₂, _∙_}

@@ -5,7 +5,7 @@ use Rattle.account.specs.declared.Effect.{Effect}
 use Rattle.account.specs.declared.Server.{Server}
 use mathlib.Core.Path.{sym, ap, _∙_}
 use borrow.Author.Tests.{eq-eqb, ne-eqb}
-use Rattle.records.proofs.TestLaws.{cond-true, cond-false}
+use Rattle.base.proofs.TestLaws.{cond-true, cond-false}
 use Rattle.account.specs.Rules.{scheduled}
 use borrow.Author.Needs.{needs}
 use Rattle.account.proofs.schedule.Statement.{statement}

@@ -3,7 +3,7 @@ use Rattle.account.specs.Rules.{sent}
 use Rattle.account.specs.declared.Place.the-variants.{Low, Upper}
 use Rattle.account.specs.declared.Effect.{Effect}
 use Rattle.account.specs.declared.Server.{Server}
-use Rattle.records.proofs.TestLaws.{cond-true, cond-false}
+use Rattle.base.proofs.TestLaws.{cond-true, cond-false}
 use mathlib.Core.Path.{sym, ap, ap₂, _∙_}
 use borrow.Author.Needs.{needs}
 use Rattle.account.proofs.wake_effect.Statement.{statement}

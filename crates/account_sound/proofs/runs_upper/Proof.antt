@@ -1,7 +1,7 @@
 -- `account_sound::runs_upper` meets its contract.
 use borrow.Author.Needs.{needs}
 use mathlib.Core.Path.{sym, _∙_}
-use Rattle.records.proofs.TestLaws.{cond-false}
+use Rattle.base.proofs.TestLaws.{cond-false}
 use Rattle.account_sound.proofs.runs_upper.Statement.{statement}
 use Rattle.account_sound.proofs.runs_upper.Tie as tie
 

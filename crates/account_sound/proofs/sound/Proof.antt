@@ -7,8 +7,8 @@ use mathlib.Core.List.{List, [], _∷_}
 use lib.ListN.{take}
 use native.Mathlib.Omega.{arith}
 use borrow.Author.Tests.{not-true, not-false}
-use Rattle.records.specs.Tests.{all}
-use Rattle.records.proofs.TestLaws.{tests, all-false, all-true, all-one, cond-elim}
+use Rattle.base.specs.Tests.{all}
+use Rattle.base.proofs.TestLaws.{tests, all-false, all-true, all-one, cond-elim}
 use Rattle.records.specs.declared.Parameters.{Parameters}
 use Rattle.account.specs.declared.Server.{Server}
 use Rattle.account.specs.declared.Account.{Account}

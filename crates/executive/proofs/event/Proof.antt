@@ -1,6 +1,6 @@
 -- `executive::event` meets its contract.
 use borrow.Author.Needs.{needs}
-use Rattle.records.proofs.TestLaws.{false-true}
+use Rattle.base.proofs.TestLaws.{false-true}
 use Rattle.executive.proofs.event.Statement.{statement}
 use Rattle.executive.proofs.event.Tie as tie
 

@@ -6,7 +6,7 @@ use lib.ListN.{getD}
 use native.Mathlib.Omega.{arith}
 use lib.Dec.{eqb}
 use borrow.Author.Tests.{eqb-true, not-true, not-false}
-use Rattle.records.proofs.TestLaws.{tests, false-true}
+use Rattle.base.proofs.TestLaws.{tests, false-true}
 use Rattle.account.specs.Rules.{Room}
 use Rattle.passing.specs.Time.{dueBy}
 use Rattle.state.specs.declared.State.{State}
@@ -16,8 +16,7 @@ use Rattle.ticks.specs.Running.{nextDue}
 use Rattle.moments.proofs.TurnLaws.{weight, start}
 use Rattle.moments.proofs.SeenLaws.{seen-held, top-small, thread-fits}
 use Rattle.moments.proofs.StepLaws.{Sendable}
-use Rattle.moments.proofs.AdvanceLaws.{Between, Turn, Ticked, tickedState, Chosen, Acted, Put, rest-fits, rest-idle, last, not-before, moment-fits, moment-idle}
-use Rattle.moments.proofs.AdvanceLaws.{ended-movable, ended-turn, number-small, limit-requires, acts, room, limit-due, put-going, put-falls, put-later}
+use Rattle.moments.proofs.AdvanceLaws.{Between, Turn, Ticked, tickedState, Chosen, Acted, Put, rest-fits, rest-idle, last, not-before, moment-fits, moment-idle, ended-movable, ended-turn, number-small, limit-requires, acts, room, limit-due, put-going, put-falls, put-later}
 use Rattle.moments.proofs.advance.Statement.{statement}
 use Rattle.moments.proofs.advance.Tie as tie
 

@@ -1,7 +1,7 @@
 -- `moments::effect_at` meets its contract.
 use mathlib.Core.Path.{sym, _∙_}
 use borrow.Author.Needs.{needs}
-use Rattle.records.proofs.TestLaws.{cond-true, cond-false}
+use Rattle.base.proofs.TestLaws.{cond-true, cond-false}
 use Rattle.moments.proofs.effect_at.Statement.{statement}
 use Rattle.moments.proofs.effect_at.Tie as tie
 

@@ -1,6 +1,6 @@
 -- `moments::ends_quantum` meets its contract.
 use mathlib.Core.Path.{sym}
-use Rattle.records.proofs.TestLaws.{cond-true}
+use Rattle.base.proofs.TestLaws.{cond-true}
 use borrow.Author.Needs.{needs}
 use Rattle.moments.proofs.ends_quantum.Statement.{statement}
 use Rattle.moments.proofs.ends_quantum.Tie as tie

@@ -5,8 +5,8 @@ use mathlib.Core.Bool.{Bool, false, cond}
 use mathlib.Core.List.{List, []}
 use native.Mathlib.Omega.{arith}
 use lib.ListN.{length, drop, drop-of-length-le}
-use Rattle.records.specs.Tests.{all, zeros}
-use Rattle.records.proofs.TestLaws.{all-one, cond-never}
+use Rattle.base.specs.Tests.{all, zeros}
+use Rattle.base.proofs.TestLaws.{all-one, cond-never}
 use Rattle.ready.proofs.StepLaws.{zeros-here, zeros-next}
 use Rattle.ready.proofs.all_zero.Statement.{statement}
 use Rattle.ready.proofs.all_zero.Tie as tie

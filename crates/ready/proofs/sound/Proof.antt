@@ -6,8 +6,8 @@ use borrow.Author.Needs.{needs}
 use borrow.Author.Tests.{eq-eqb, not-true, not-false}
 use lib.ListN.{length, getD}
 use lib.Dec.{eqb}
-use Rattle.records.specs.Tests.{all}
-use Rattle.records.proofs.TestLaws.{all-false, all-one}
+use Rattle.base.specs.Tests.{all}
+use Rattle.base.proofs.TestLaws.{all-false, all-one}
 use Rattle.ready.specs.Sound.{soundRows, soundLists}
 use Rattle.ready.proofs.sound.Statement.{statement}
 use Rattle.ready.proofs.sound.Tie as tie

@@ -8,14 +8,13 @@ use lib.ListN.{length, take, drop, getD, length-drop}
 use lib.Seq.{length-take-le}
 use borrow.Author.Needs.{needs}
 use borrow.Author.Tests.{not-true, not-false}
-use Rattle.records.specs.Tests.{all, zeros}
-use Rattle.records.proofs.TestLaws.{false-true}
+use Rattle.base.specs.Tests.{all, zeros}
+use Rattle.base.proofs.TestLaws.{false-true}
 use Rattle.ready.specs.Lists.{rowAt, members}
 use Rattle.ready.specs.Sound.{soundRows}
 use Rattle.ready.specs.Steps.{struck, RowStruck}
 use Rattle.ready.proofs.Soundness.{rows-true, true-rows}
-use Rattle.ready.proofs.StrikeLaws.{From, rowTests, never-true, same-test, struck-length}
-use Rattle.ready.proofs.StrikeLaws.{from-tests, from-next, from-back, from-start, start-from, from-end, end-from}
+use Rattle.ready.proofs.StrikeLaws.{From, rowTests, never-true, same-test, struck-length, from-tests, from-next, from-back, from-start, start-from, from-end, end-from}
 use Rattle.ready.proofs.sound_rows.Statement.{statement}
 use Rattle.ready.proofs.sound_rows.Tie as tie
 

@@ -5,7 +5,7 @@ use mathlib.Core.List.{List, []}
 use native.Mathlib.Omega.{arith}
 use borrow.Author.Needs.{needs}
 use lib.ListN.{length, drop, getD, length-set, drop-of-length-le, List·getD-eq-default}
-use Rattle.records.proofs.TestLaws.{false-true}
+use Rattle.base.proofs.TestLaws.{false-true}
 use Rattle.ready.specs.Steps.{strikes, struck}
 use Rattle.ready.proofs.StepLaws.{strikes-here, strikes-next, struck-next}
 use Rattle.ready.proofs.strike.Statement.{statement}

@@ -7,8 +7,8 @@ use native.Mathlib.Omega.{arith}
 use lib.ListN.{length, take, drop, length-drop}
 use lib.Seq.{take-all, drop-drop}
 use borrow.Author.Tests.{lt-leb, le-leb, not-true, not-false}
-use Rattle.records.specs.Tests.{all, zeros}
-use Rattle.records.proofs.TestLaws.{all-false, all-one, false-true}
+use Rattle.base.specs.Tests.{all, zeros}
+use Rattle.base.proofs.TestLaws.{all-false, all-one, false-true}
 use Rattle.ready.specs.Lists.{size, members, unused}
 use Rattle.ready.specs.Steps.{strikes, struck, Struck, RowStruck}
 use borrow.Author.Needs.{needs}

@@ -9,8 +9,8 @@ use lib.ListN.{length, drop, getD, set, length-set}
 use lib.Dec.{eqb}
 use borrow.Author.Needs.{needs}
 use borrow.Author.Tests.{lt-leb, le-leb, eq-eqb, ne-eqb}
-use Rattle.records.specs.Tests.{below}
-use Rattle.records.proofs.TestLaws.{all-false}
+use Rattle.base.specs.Tests.{below}
+use Rattle.base.proofs.TestLaws.{all-false}
 use Rattle.ready.specs.Sound.{soundLists}
 use Rattle.state.specs.declared.State.{State}
 use Rattle.state.specs.State.{threadAt, place}

@@ -1,7 +1,7 @@
 -- `ticks::after_limit` meets its contract.
 use mathlib.Core.Path.{_≡_, _∙_}
 use borrow.Author.Tests.{lt-ltb, le-ltb, eq-eqb, ne-eqb}
-use Rattle.records.proofs.TestLaws.{cond-false}
+use Rattle.base.proofs.TestLaws.{cond-false}
 use Rattle.ticks.specs.declared.Due.{Due}
 use Rattle.ticks.proofs.DueLaws.{afterEntry, entry-came}
 use Rattle.ticks.proofs.after_limit.Statement.{statement}

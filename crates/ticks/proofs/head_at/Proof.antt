@@ -3,7 +3,7 @@ use lib.Dec.{eqb}
 use native.Mathlib.Omega.{arith}
 use mathlib.Core.Path.{sym, _∙_}
 use borrow.Author.Tests.{eq-eqb, ne-eqb}
-use Rattle.records.proofs.TestLaws.{cond-true, cond-false}
+use Rattle.base.proofs.TestLaws.{cond-true, cond-false}
 use Rattle.ticks.proofs.head_at.Statement.{statement}
 use Rattle.ticks.proofs.head_at.Tie as tie
 

@@ -1,7 +1,7 @@
 -- `ticks::limit_at` meets its contract.
 use mathlib.Core.Path.{sym, _∙_}
 use borrow.Author.Tests.{eq-eqb, ne-eqb}
-use Rattle.records.proofs.TestLaws.{cond-true, cond-false}
+use Rattle.base.proofs.TestLaws.{cond-true, cond-false}
 use borrow.Author.Needs.{needs}
 use Rattle.ticks.proofs.limit_at.Statement.{statement}
 use Rattle.ticks.proofs.limit_at.Tie as tie

@@ -5,7 +5,7 @@ use Prim.Native.Nat.{ℕ, _+_, _≤_, _<_, _^_}
 use mathlib.Core.Path.{ap, _∙_, subst⁻¹}
 use lib.Dec.{eqb}
 use borrow.Author.Tests.{eqb-true}
-use Rattle.records.proofs.TestLaws.{cond-elim}
+use Rattle.base.proofs.TestLaws.{cond-elim}
 use Rattle.account.specs.Rules.{charged}
 use Rattle.ticks.proofs.RunLaws.{ran-fifo, ran-rr, ran-sporadic}
 use Rattle.ticks.proofs.ran_thread.Statement.{statement}

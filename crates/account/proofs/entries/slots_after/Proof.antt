@@ -4,7 +4,7 @@ use mathlib.Core.Path.{sym, ap, _∙_}
 use lib.ListN.{set}
 use native.Mathlib.Omega.{arith}
 use borrow.Author.Tests.{eq-eqb, ne-eqb}
-use Rattle.records.proofs.TestLaws.{cond-true, cond-false}
+use Rattle.base.proofs.TestLaws.{cond-true, cond-false}
 use borrow.Author.Needs.{needs}
 use Rattle.account.proofs.entries.slots_after.Statement.{statement}
 use Rattle.account.proofs.entries.slots_after.Tie as tie

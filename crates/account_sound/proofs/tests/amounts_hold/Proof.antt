@@ -4,7 +4,7 @@ use mathlib.Core.Path.{_≡_, sym, ap, _∙_}
 use mathlib.Core.List.{List}
 use lib.ListN.{take, drop, getD}
 use native.Mathlib.Omega.{arith}
-use Rattle.records.specs.Tests.{all}
+use Rattle.base.specs.Tests.{all}
 use Rattle.account.specs.Sound.{amountTests}
 use Rattle.account_sound.proofs.ScanLaws.{no-place, amount-step, amount-none, amount-over, amount-held, amount-end}
 use Rattle.account_sound.proofs.tests.amounts_hold.Statement.{statement}

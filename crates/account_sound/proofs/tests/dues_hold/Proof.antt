@@ -4,7 +4,7 @@ use mathlib.Core.Path.{_≡_, refl, sym, ap, _∙_}
 use mathlib.Core.List.{List}
 use lib.ListN.{take, drop}
 use native.Mathlib.Omega.{arith}
-use Rattle.records.specs.Tests.{all}
+use Rattle.base.specs.Tests.{all}
 use Rattle.account.specs.Sound.{dueTests}
 use Rattle.account_sound.proofs.ScanLaws.{no-place, due-step, due-early, due-late}
 use Rattle.account_sound.proofs.tests.dues_hold.Statement.{statement}

@@ -7,8 +7,8 @@ use lib.Dec.{leb}
 use native.Mathlib.Omega.{arith}
 use borrow.Author.Tests.{lt-leb, le-leb, eq-eqb, ne-eqb}
 use Rattle.records.specs.declared.Parameters.{Parameters}
-use Rattle.records.specs.Tests.{all}
-use Rattle.records.proofs.TestLaws.{all-false, all-one, leb-same}
+use Rattle.base.specs.Tests.{all}
+use Rattle.base.proofs.TestLaws.{all-false, all-one, leb-same}
 use Rattle.account.specs.declared.Server.{Server}
 use Rattle.account.specs.Sound.{numberTests}
 use Rattle.account_sound.proofs.tests.numbers_hold.Statement.{statement}

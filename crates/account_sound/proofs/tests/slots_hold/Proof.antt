@@ -4,7 +4,7 @@ use mathlib.Core.Path.{_≡_, refl, sym, ap, _∙_}
 use mathlib.Core.List.{List}
 use lib.ListN.{length, drop, drop-of-length-le}
 use native.Mathlib.Omega.{arith}
-use Rattle.records.specs.Tests.{all, zeros}
+use Rattle.base.specs.Tests.{all, zeros}
 use borrow.Author.Tests.{eq-eqb}
 use Rattle.account.specs.Sound.{slotTests}
 use Rattle.account_sound.proofs.ScanLaws.{zero-step, zero-not}

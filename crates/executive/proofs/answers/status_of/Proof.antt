@@ -4,7 +4,7 @@ use Prim.Native.Nat.{ℕ}
 use mathlib.Core.Path.{sym, ap, _∙_}
 use lib.Dec.{eqb}
 use Rattle.events.specs.Answers.{stateStatusOf}
-use Rattle.executive.proofs.StatusLaws.{first-is, second-is}
+use Rattle.base.proofs.RefusalLaws.{given-first, given-second}
 use Rattle.executive.proofs.answers.status_of.Statement.{statement}
 use Rattle.executive.proofs.answers.status_of.Tie as tie
 
@@ -12,7 +12,7 @@ early-status-requires : tie.Need-early-status-requires
 early-status-requires c κs = search needs
 
 returns : tie.Need-returns
-returns c = let f = c .before .early-status .ensures in f ∙ first-is _ _ (λ z. c .if1 .taken (f ∙ z))
+returns c = let f = c .before .early-status .ensures in f ∙ sym (given-first _ _ (λ z. c .if1 .taken (f ∙ z)))
 
 highest-requires : tie.Need-highest-requires
 highest-requires c κs = search needs
@@ -25,7 +25,7 @@ returns-2 c =
     let a = c .before .before .before .before .args in
     c .state-status .ensures
     ∙ ap (λ (p : ℕ). stateStatusOf (a .e .kind) (eqb p 0) (a .blocked)) (c .before .highest .ensures)
-    ∙ second-is _ _ (sym (c .before .before .before .early-status .ensures) ∙ c .before .before .if1 .left)
+    ∙ sym (given-second _ _ (sym (c .before .before .before .early-status .ensures) ∙ c .before .before .if1 .left))
 
 pub status-of-spec : {M : Type 1} → statement M
 status-of-spec =

@@ -1,7 +1,7 @@
 -- `executive::opening::starts_blocked` meets its contract.
 use mathlib.Core.Path.{sym}
 use borrow.Author.Tests.{eq-eqb, ne-eqb}
-use Rattle.records.proofs.TestLaws.{cond-true, cond-false}
+use Rattle.base.proofs.TestLaws.{cond-true, cond-false}
 use Rattle.executive.proofs.opening.starts_blocked.Statement.{statement}
 use Rattle.executive.proofs.opening.starts_blocked.Tie as tie
 

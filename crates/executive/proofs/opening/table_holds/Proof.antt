@@ -4,7 +4,7 @@ use mathlib.Core.Path.{_≡_, refl, sym, ap, _∙_}
 use native.Mathlib.Omega.{arith}
 use borrow.Author.Needs.{needs}
 use borrow.Author.Tests.{not-true, not-false}
-use Rattle.records.specs.Tests.{below}
+use Rattle.base.specs.Tests.{below}
 use Rattle.executive.proofs.OpenLaws.{opens, below-less, below-stops}
 use Rattle.executive.proofs.opening.table_holds.Statement.{statement}
 use Rattle.executive.proofs.opening.table_holds.Tie as tie

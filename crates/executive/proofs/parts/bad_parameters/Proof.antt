@@ -4,7 +4,7 @@ use mathlib.Core.Bool.{not}
 use mathlib.Core.Path.{sym, ap, _∙_}
 use lib.Dec.{eqb}
 use borrow.Author.Tests.{eq-eqb, ne-eqb}
-use Rattle.records.proofs.TestLaws.{cond-false}
+use Rattle.base.proofs.TestLaws.{cond-false}
 use Rattle.executive.proofs.parts.bad_parameters.Statement.{statement}
 use Rattle.executive.proofs.parts.bad_parameters.Tie as tie
 

@@ -4,9 +4,9 @@ use mathlib.Core.Bool.{Bool}
 use mathlib.Core.List.{List, [], _∷_}
 use lib.Dec.{eqb}
 use borrow.Author.Tests.{eq-eqb, ne-eqb}
-use Rattle.records.specs.Tests.{all}
+use Rattle.base.specs.Tests.{all}
 use Rattle.records.specs.Ranges.{allZero}
-use Rattle.records.proofs.TestLaws.{all-false}
+use Rattle.base.proofs.TestLaws.{all-false}
 use Rattle.account.specs.declared.Pending.{Pending}
 use Rattle.rows.specs.Rows.{pendingOf}
 use Rattle.state.specs.declared.Thread.{Thread}

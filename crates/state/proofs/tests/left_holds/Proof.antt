@@ -5,8 +5,9 @@ use mathlib.Core.List.{List, [], _∷_}
 use mathlib.Core.Path.{_≡_, sym, ap, _∙_}
 use lib.Dec.{leb, eqb}
 use borrow.Author.Tests.{lt-leb, le-leb}
-use Rattle.records.specs.Tests.{all, byPolicy}
-use Rattle.records.proofs.TestLaws.{all-false, all-one}
+use Rattle.base.specs.Tests.{all}
+use Rattle.records.specs.Ranges.{byPolicy}
+use Rattle.base.proofs.TestLaws.{all-false, all-one}
 use Rattle.state.specs.declared.Thread.{Thread}
 use Rattle.state.specs.Sound.{leftTests}
 use Rattle.state.proofs.TestLaws.{policy-not-rr}

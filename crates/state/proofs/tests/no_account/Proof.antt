@@ -1,7 +1,7 @@
 -- `state::tests::no_account` meets its contract.
 use mathlib.Core.Path.{sym}
 use borrow.Author.Tests.{eq-eqb, ne-eqb}
-use Rattle.records.proofs.TestLaws.{all-false}
+use Rattle.base.proofs.TestLaws.{all-false}
 use Rattle.rows.specs.Rows.{pendingOf}
 use Rattle.state.specs.Sound.{noAccountTests}
 use Rattle.state.proofs.TestLaws.{decided-true, decided-false, _and_, by-last}

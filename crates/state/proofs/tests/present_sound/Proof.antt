@@ -5,9 +5,9 @@ use mathlib.Core.Path.{sym}
 use mathlib.Core.List.{List, [], _∷_}
 use lib.Dec.{leb, eqb}
 use borrow.Author.Tests.{eq-eqb, ne-eqb, le-leb, lt-leb}
-use Rattle.records.specs.Tests.{all}
+use Rattle.base.specs.Tests.{all}
 use Rattle.records.specs.Ranges.{mostReplenishments, inRange}
-use Rattle.records.proofs.TestLaws.{all-false}
+use Rattle.base.proofs.TestLaws.{all-false}
 use Rattle.account.specs.declared.Pending.{Pending}
 use Rattle.rows.specs.Rows.{pendingOf}
 use Rattle.state.specs.declared.Thread.{Thread}

@@ -5,8 +5,8 @@ use mathlib.Core.Path.{_≡_, refl, sym, ap, _∙_}
 use mathlib.Core.List.{List}
 use lib.ListN.{drop, drop-of-length-le}
 use native.Mathlib.Omega.{arith}
-use Rattle.records.specs.Tests.{all, zeros}
-use Rattle.records.proofs.TestLaws.{all-one, cond-never}
+use Rattle.base.specs.Tests.{all, zeros}
+use Rattle.base.proofs.TestLaws.{all-one, cond-never}
 use Rattle.account_sound.proofs.ScanLaws.{zero-step, zero-not}
 use Rattle.rows.specs.Rows.{slotsAt}
 use Rattle.rows.proofs.RowLaws.{row-length, row-at}

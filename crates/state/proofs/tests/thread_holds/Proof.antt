@@ -1,6 +1,6 @@
 -- `state::tests::thread_holds` meets its contract.
 use mathlib.Core.Path.{sym, _∙_}
-use Rattle.records.proofs.TestLaws.{cond-true, cond-false}
+use Rattle.base.proofs.TestLaws.{cond-true, cond-false}
 use borrow.Author.Needs.{needs}
 use Rattle.state.proofs.tests.thread_holds.Statement.{statement}
 use Rattle.state.proofs.tests.thread_holds.Tie as tie

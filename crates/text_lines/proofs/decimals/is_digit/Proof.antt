@@ -1,8 +1,8 @@
 -- `text_lines::is_digit` meets its contract.
 use mathlib.Core.Path.{sym}
 use borrow.Author.Tests.{lt-leb, le-leb}
-use Rattle.records.specs.Tests.{all}
-use Rattle.records.proofs.TestLaws.{all-one}
+use Rattle.base.specs.Tests.{all}
+use Rattle.base.proofs.TestLaws.{all-one}
 use Rattle.text_lines.proofs.decimals.is_digit.Statement.{statement}
 use Rattle.text_lines.proofs.decimals.is_digit.Tie as tie
 

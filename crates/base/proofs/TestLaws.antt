@@ -9,7 +9,7 @@ use native.Mathlib.Omega.{arith}
 use native.Mathlib.Nat.{not-le-of-lt, lt-of-not-le}
 use native.Mathlib.Decide.{ℕ-discrete}
 use borrow.Author.Tests.{ltb-true, leb-true, eqb-true, lt-ltb, le-leb, lt-leb, eq-eqb, ltb-false, leb-false}
-use Rattle.records.specs.Tests.{all, below, zeros, byPolicy}
+use Rattle.base.specs.Tests.{all, below, zeros}
 
 -- for omega: a test from the fact and the fact from the test
 pub ruleset tests = (arith, ltb-true, leb-true, eqb-true, lt-ltb, le-leb, eq-eqb, ltb-false, leb-false)
@@ -102,7 +102,7 @@ leb-same a b c d f g = go (leb a b) refl
     go true e = sym (le-leb c d (f (leb-true a b e)))
     go false e = sym (lt-leb c d (lt-of-not-le (λ h. not-le-of-lt (leb-false a b e) (g h))))
 
--- cases of `cond` and of `byPolicy`, for a property of the result
+-- cases of `cond`, for a property of the result
 pub cond-elim : {A : Type 0} (P : A → Type 0) (b : Bool) (x y : A) → (b ≡ true → P x) → (b ≡ false → P y) → P (cond b x y)
 cond-elim P true x y f g = f refl
 cond-elim P false x y f g = g refl
@@ -114,11 +114,6 @@ cond-true false x y e = false-true e
 pub cond-false : {A : Type 0} (b : Bool) (x y : A) → b ≡ false → cond b x y ≡ y
 cond-false true x y e = false-true (sym e)
 cond-false false x y e = refl
-
-pub policy-elim : {A : Type 0} (P : A → Type 0) (c : ℕ) (x y z : A) → (c ≡ 0 → P x) → (c ≡ 1 → P y) → (1 < c → P z) → P (byPolicy c x y z)
-policy-elim P zero x y z f g h = f refl
-policy-elim P (suc zero) x y z f g h = g refl
-policy-elim P (suc (suc c)) x y z f g h = h (omega arith)
 
 -- a flag that is lowered
 pub cond-never : (b : Bool) → cond b false false ≡ false

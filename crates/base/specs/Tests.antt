@@ -18,9 +18,3 @@ below (suc n) f = cond (below n f) (f n) false
 abbrev pub zeros : List ℕ → List Bool
 zeros [] = []
 zeros (x ∷ xs) = eqb x 0 ∷ zeros xs
-
--- by the number of a policy: 0 is SCHED_FIFO, 1 SCHED_RR, and any other SCHED_SPORADIC
-abbrev pub byPolicy : {A : Type 0} → ℕ → A → A → A → A
-byPolicy zero fifo rr sporadic = fifo
-byPolicy (suc zero) fifo rr sporadic = rr
-byPolicy (suc (suc n)) fifo rr sporadic = sporadic

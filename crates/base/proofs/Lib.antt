@@ -1,0 +1,4 @@
+-- Laws that the crates above use.
+pub mod PartLaws
+pub mod RefusalLaws
+pub mod TestLaws

@@ -1,0 +1,3 @@
+-- What a reader of `base` must believe.
+pub mod Tests
+pub mod Refusals
