@@ -11,7 +11,7 @@ use native.Mathlib.Nat.{add-comm}
 use lib.Dec.{eqb}
 use Rattle.base.proofs.TestLaws.{cond-elim}
 use Rattle.account.specs.declared.Pending.{Pending}
-use Rattle.account.specs.declared.Effect.{Effect}
+use Rattle.sporadic.specs.declared.Effect.{Effect}
 use Rattle.account.specs.Rules.{withoutFirst, slotsAfter, pendingAfter}
 
 -- the first i numbers moved one slot up

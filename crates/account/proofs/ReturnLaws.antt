@@ -10,9 +10,9 @@ use Rattle.base.proofs.TestLaws.{false-true}
 use Rattle.records.specs.declared.Parameters.{Parameters}
 use Rattle.account.specs.declared.Pending.{Pending}
 use Rattle.account.specs.declared.Account.{Account}
-use Rattle.account.specs.declared.Effect.{Effect}
+use Rattle.sporadic.specs.declared.Effect.{Effect}
 use Rattle.account.specs.Rules.{countAfter, applied, firstIsDue, returnFirst, returned}
-use Rattle.account.proofs.EffectLaws.{return-elim}
+use Rattle.sporadic.proofs.EffectLaws.{return-elim}
 
 pub due-some : (now : ℕ) (q : Pending) → firstIsDue now q ≡ true → 0 < q .count
 due-some now q e = go (ltb 0 (q .count)) refl e

@@ -1,11 +1,12 @@
 -- One sporadic account (01 State 2): capacity, charged time not yet scheduled, activation time, pending replenishments.
 use Prim.Native.Nat.{ℕ}
-use mathlib.Core.Bool.{Bool, cond, _&&_}
+use mathlib.Core.Bool.{Bool, cond}
 use mathlib.Core.List.{List}
 use lib.ListN.{take, getD, replicate}
-use lib.Dec.{ltb, eqb}
+use lib.Dec.{eqb}
 use Rattle.records.specs.declared.Parameters.{Parameters}
 use Rattle.records.specs.Ranges.{mostReplenishments}
+use Rattle.sporadic.specs.Rules.{atUpper}
 use Rattle.account.specs.declared.Pending.{Pending}
 use Rattle.account.specs.declared.Account.{Account}
 
@@ -20,10 +21,7 @@ pendingDues q = take (q .count) (q .dues)
 abbrev pub pendingAmounts : Pending → List ℕ
 pendingAmounts q = take (q .count) (q .amounts)
 
--- 01 State 9: the upper priority takes capacity and fewer than max_repl pending; otherwise the thread is at low
-abbrev pub atUpper : Parameters → ℕ → ℕ → Bool
-atUpper p capacity count = ltb 0 capacity && ltb count (p .«max_repl»)
-
+-- 01 State 9: whether an account gives the upper priority
 abbrev pub isUpper : Parameters → Account → Bool
 isUpper p a = atUpper p (a .server .capacity) (a .pending .count)
 

@@ -6,7 +6,7 @@ use lib.ListN.{length, drop}
 use lib.Dec.{ltb, leb, eqb}
 use Rattle.records.specs.declared.Parameters.{Parameters}
 use Rattle.base.specs.Tests.{all, zeros}
-use Rattle.account.specs.declared.Server.{Server}
+use Rattle.sporadic.specs.declared.Server.{Server}
 use Rattle.account.specs.declared.Account.{Account}
 use Rattle.account.specs.Account.{entries, pendingDues, pendingAmounts, isUpper}
 

@@ -1,26 +1,12 @@
-// One sporadic account: the rules of SCHED_SPORADIC over its parameters and itself, by value. No thread, no list.
+// One sporadic account: a server and its pending entries. What a rule does to it is its Effect applied, by value. No thread, no list.
 ghost use mathlib.Core.Path.{_≡_};
-ghost use mathlib.Core.Bool.{not, _&&_};
-ghost use Prim.Native.Nat.{_+_, _<_, _≤_, _^_, min};
-ghost use lib.Dec.{leb};
-ghost use Rattle.account.specs.Account.{atUpper, firstDue, freshAccount};
+ghost use Rattle.sporadic.specs.Rules.{limitEffect};
+ghost use Rattle.account.specs.Account.{firstDue, freshAccount};
 ghost use Rattle.account.specs.Rules.{
-  charged,
-  replenished,
-  dueOf,
-  activated,
   Room,
   applied,
   outcome,
-  unchanged,
-  scheduled,
   Schedulable,
-  sent,
-  raised,
-  limitEffect,
-  blockEffect,
-  wakeEffect,
-  returnEffect,
   blocking,
   waking,
   firstIsDue,
@@ -31,19 +17,14 @@ ghost use Rattle.account.specs.Rules.{
 pub use entries::count_after;
 pub use entries::without_first;
 use records::Parameters;
+use sporadic::Effect;
+use sporadic::Place;
+use sporadic::Server;
 
 mod entries; // entries.rt: an entry comes, and the first one goes
 
 // How many pending replenishments an account has slots for.
 pub const ENTRIES: usize = 8;
-
-// Capacity, the charged time that is not yet scheduled (01's U), and the activation time.
-#[repr(C)]
-pub struct Server {
-    pub capacity: u64,
-    pub used: u64,
-    pub activation: u64,
-}
 
 // The first `count` slots hold the pending replenishments in order of their due times; the others hold 0.
 pub struct Pending {
@@ -55,26 +36,6 @@ pub struct Pending {
 pub struct Account {
     pub server: Server,
     pub pending: Pending,
-}
-
-// Where a rule sends the thread: Low and Upper are the tails of its two lists.
-pub enum Place {
-    Stays,
-    Low,
-    LowThenUpper,
-    Upper,
-}
-
-// What a rule does, without the entries that were there: the server that it leaves; where the thread goes; the amount that
-// becomes pending, 0 for none, with its due time; the amount that came back, 0 for none; and whether that was the first
-// entry, which is then gone.
-pub struct Effect {
-    pub server: Server,
-    pub place: Place,
-    pub due: u64,
-    pub amount: u64,
-    pub back: u64,
-    pub first: bool,
 }
 
 // A rule's answer: the account, and where the thread goes.
@@ -101,16 +62,6 @@ pub fn fresh(p: Parameters, now: u64) -> Account
     }
 }
 
-// Whether the assigned priority is the upper one.
-pub fn at_upper(p: Parameters, capacity: u64, count: u8) -> bool
-    ensures { λ r. ⌜ r ≡ atUpper p capacity count ⌝ }
-{
-    if capacity == 0 {
-        return false;
-    }
-    count < p.max_repl
-}
-
 // When the first pending replenishment is due; 0 where none is pending.
 pub fn first_due(q: Pending) -> u64
     ensures { λ r. ⌜ r ≡ firstDue q ⌝ }
@@ -119,217 +70,6 @@ pub fn first_due(q: Pending) -> u64
         return 0;
     }
     q.dues[0]
-}
-
-// k ticks run at the upper priority.
-pub fn charge(s: Server, k: u64) -> Server
-    requires { ⌜ (k ≤ s .capacity) × (s .used + k < 2 ^ 64) ⌝ }
-    ensures { λ r. ⌜ r ≡ charged k s ⌝ }
-{
-    Server {
-        capacity: s.capacity - k,
-        used: s.used + k,
-        activation: s.activation,
-    }
-}
-
-// capacity + amount, at most the budget, with no sum that could wrap.
-fn up_to(budget: u64, capacity: u64, amount: u64) -> u64
-    ensures { λ r. ⌜ r ≡ min (capacity + amount) budget ⌝ }
-{
-    if budget <= capacity {
-        return budget;
-    }
-    if budget - capacity <= amount {
-        return budget;
-    }
-    capacity + amount
-}
-
-// An amount comes back.
-fn replenish(p: Parameters, s: Server, amount: u64) -> Server
-    ensures { λ r. ⌜ r ≡ replenished amount p s ⌝ }
-{
-    Server {
-        capacity: up_to(p.budget, s.capacity, amount),
-        used: s.used,
-        activation: s.activation,
-    }
-}
-
-// The activation time becomes now.
-fn activate(s: Server, now: u64) -> Server
-    ensures { λ r. ⌜ r ≡ activated now s ⌝ }
-{
-    Server {
-        capacity: s.capacity,
-        used: s.used,
-        activation: now,
-    }
-}
-
-// Nothing happens.
-fn nothing(s: Server) -> Effect
-    ensures { λ r. ⌜ r ≡ unchanged s ⌝ }
-{
-    Effect {
-        server: s,
-        place: Place::Stays,
-        due: 0,
-        amount: 0,
-        back: 0,
-        first: false,
-    }
-}
-
-// Whether U would be due at or before now.
-fn due_by(p: Parameters, s: Server, now: u64) -> bool
-    ensures { λ r. ⌜ r ≡ leb (dueOf p s) now ⌝ }
-{
-    if now < s.activation {
-        return false;
-    }
-    p.period <= now - s.activation
-}
-
-// U is scheduled: nothing where it is 0, back at once where it is due by now, else one entry more.
-fn schedule(p: Parameters, s: Server, now: u64) -> Effect
-    requires { ⌜ dueOf p s < 2 ^ 64 ⌝ }
-    ensures { λ r. ⌜ r ≡ scheduled now p s ⌝ }
-{
-    if s.used == 0 {
-        return nothing(s);
-    }
-    let cleared = Server {
-        capacity: s.capacity,
-        used: 0,
-        activation: s.activation,
-    };
-    if due_by(p, s, now) {
-        return Effect {
-            server: replenish(p, cleared, s.used),
-            place: Place::Stays,
-            due: 0,
-            amount: 0,
-            back: s.used,
-            first: false,
-        };
-    }
-    Effect {
-        server: cleared,
-        place: Place::Stays,
-        due: s.activation + p.period,
-        amount: s.used,
-        back: 0,
-        first: false,
-    }
-}
-
-// With another server, the thread goes to x.
-fn send(e: Effect, x: Place, s: Server) -> Effect
-    ensures { λ r. ⌜ r ≡ sent x s e ⌝ }
-{
-    Effect {
-        server: s,
-        place: x,
-        due: e.due,
-        amount: e.amount,
-        back: e.back,
-        first: e.first,
-    }
-}
-
-// An amount came back: a runnable thread that was at low goes to its upper list, by x, with activation now.
-fn raise(e: Effect, low: bool, x: Place, now: u64) -> Effect
-    ensures { λ r. ⌜ r ≡ raised now low x e ⌝ }
-{
-    if low {
-        let s = e.server;
-        return send(e, x, activate(s, now));
-    }
-    e
-}
-
-// The limit is reached: to low, and on to upper where U came back at once. Nothing where the thread is blocked or has
-// capacity left.
-pub fn limit_effect(p: Parameters, s: Server, blocked: bool, now: u64) -> Effect
-    requires { ⌜ dueOf p s < 2 ^ 64 ⌝ }
-    ensures { λ r. ⌜ r ≡ limitEffect now blocked p s ⌝ }
-{
-    if blocked {
-        return nothing(s);
-    }
-    if 0 < s.capacity {
-        return nothing(s);
-    }
-    let e = schedule(p, s, now);
-    let v = e.server;
-    raise(send(e, Place::Low, v), 0 < e.back, Place::LowThenUpper, now)
-}
-
-// The running thread blocks: U is scheduled. Nothing where it is blocked already.
-fn block_effect(p: Parameters, s: Server, blocked: bool, now: u64) -> Effect
-    requires { ⌜ dueOf p s < 2 ^ 64 ⌝ }
-    ensures { λ r. ⌜ r ≡ blockEffect now blocked p s ⌝ }
-{
-    if blocked {
-        return nothing(s);
-    }
-    schedule(p, s, now)
-}
-
-// A blocked thread with `count` entries wakes, at the upper or the low priority. Nothing where it is runnable already.
-fn wake_effect(p: Parameters, s: Server, count: u8, blocked: bool, now: u64) -> Effect
-    ensures { λ r. ⌜ r ≡ wakeEffect now blocked p count s ⌝ }
-{
-    let e = nothing(s);
-    if blocked {
-        if at_upper(p, s.capacity, count) {
-            return send(e, Place::Upper, activate(s, now));
-        }
-        return send(e, Place::Low, s);
-    }
-    e
-}
-
-// Whether a thread is runnable and at its low priority.
-fn runs_low(blocked: bool, upper: bool) -> bool
-    ensures { λ r. ⌜ r ≡ (not blocked && not upper) ⌝ }
-{
-    if blocked {
-        return false;
-    }
-    !upper
-}
-
-// The first of `count` entries, of this amount, comes back; nothing where there is none.
-pub fn return_effect(
-    p: Parameters,
-    s: Server,
-    count: u8,
-    amount: u64,
-    blocked: bool,
-    now: u64,
-) -> Effect
-    ensures { λ r. ⌜ r ≡ returnEffect now blocked p count amount s ⌝ }
-{
-    if count == 0 {
-        return nothing(s);
-    }
-    let e = Effect {
-        server: replenish(p, s, amount),
-        place: Place::Stays,
-        due: 0,
-        amount: 0,
-        back: amount,
-        first: true,
-    };
-    raise(
-        e,
-        runs_low(blocked, at_upper(p, s.capacity, count)),
-        Place::Upper,
-        now,
-    )
 }
 
 // The account after an effect.
@@ -370,7 +110,7 @@ pub fn limit_reached(p: Parameters, a: Account, blocked: bool, now: u64) -> Outc
     ensures { λ r. ⌜ r ≡ outcome (limitEffect now blocked p (a .server)) a ⌝ }
 {
     let s = a.server;
-    answer(limit_effect(p, s, blocked, now), a)
+    answer(sporadic::limit_effect(p, s, blocked, now), a)
 }
 
 // The running thread blocks.
@@ -379,7 +119,7 @@ pub fn block(p: Parameters, a: Account, blocked: bool, now: u64) -> Outcome
     ensures { λ r. ⌜ r ≡ blocking now blocked p a ⌝ }
 {
     let s = a.server;
-    answer(block_effect(p, s, blocked, now), a)
+    answer(sporadic::block_effect(p, s, blocked, now), a)
 }
 
 // A blocked thread wakes.
@@ -387,7 +127,10 @@ pub fn wake(p: Parameters, a: Account, blocked: bool, now: u64) -> Outcome
     ensures { λ r. ⌜ r ≡ waking now blocked p a ⌝ }
 {
     let s = a.server;
-    answer(wake_effect(p, s, a.pending.count, blocked, now), a)
+    answer(
+        sporadic::wake_effect(p, s, a.pending.count, blocked, now),
+        a,
+    )
 }
 
 // Whether the first pending replenishment is due.
@@ -406,7 +149,7 @@ fn return_first(p: Parameters, a: Account, blocked: bool, now: u64) -> Effect
 {
     let s = a.server;
     let q = a.pending;
-    return_effect(p, s, q.count, q.amounts[0], blocked, now)
+    sporadic::return_effect(p, s, q.count, q.amounts[0], blocked, now)
 }
 
 // Every pending replenishment that is due comes back, one after the other.

@@ -1,7 +1,7 @@
 // The test that one sporadic account is sound, for any values of its fields. The definitions stand in account/specs/Sound.
 ghost use mathlib.Core.Path.{_≡_};
 ghost use mathlib.Core.Bool.{false, cond};
-ghost use Rattle.account.specs.Account.{atUpper};
+ghost use Rattle.sporadic.specs.Rules.{atUpper};
 ghost use Rattle.account.specs.Sound.{soundAt};
 use account::Account;
 use base::wide;
@@ -42,5 +42,5 @@ fn runs_upper(p: Parameters, capacity: u64, count: u8, blocked: bool) -> bool
     if blocked {
         return false;
     }
-    account::at_upper(p, capacity, count)
+    sporadic::at_upper(p, capacity, count)
 }

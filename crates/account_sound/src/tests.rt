@@ -7,8 +7,8 @@ ghost use Rattle.base.specs.Tests.{all};
 ghost use Rattle.account.specs.Account.{entries};
 ghost use Rattle.account.specs.Sound.{numberTests, amountTests, dueTests, slotTests};
 use account::ENTRIES;
-use account::Server;
 use records::Parameters;
+use sporadic::Server;
 
 // The most entries that there are slots for.
 const MOST: u8 = ENTRIES as u8;

@@ -4,10 +4,10 @@
 use account::Account;
 use account::Outcome;
 use account::Pending;
-use account::Place;
-use account::Server;
 use libc::STDOUT_FILENO;
 use records::Parameters;
+use sporadic::Place;
+use sporadic::Server;
 
 fn number(n: u64) {
     io::print_decimal(STDOUT_FILENO, n);
@@ -95,7 +95,7 @@ fn run(p: Parameters, a: Account, k: u64, now: u64) -> Account {
         title(b"too much used");
         return a;
     }
-    let t = account::charge(s, k);
+    let t = sporadic::charge(s, k);
     let q = a.pending;
     let b = Account {
         server: t,

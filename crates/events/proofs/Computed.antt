@@ -2,7 +2,7 @@
 use mathlib.Core.Path.{refl}
 use Rattle.base.specs.Tests.{all, below}
 use Rattle.records.specs.Ranges.{fifoInRange, rrInRange, sporadicInRange, inRange, allZero}
-use Rattle.account.specs.Rules.{scheduled, limitEffect, returnEffect}
+use Rattle.sporadic.specs.Rules.{scheduled, limitEffect, returnEffect}
 use Rattle.account.specs.Sound.{soundAt}
 use Rattle.ready.specs.Lists.{withThreads, without, occurs}
 use Rattle.ready.specs.Word.{wordOf, occupancy}

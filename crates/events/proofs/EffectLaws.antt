@@ -11,12 +11,13 @@ use Rattle.records.specs.Ranges.{byPolicy, inRange, fifoInRange, rrInRange, spo
 use Rattle.base.proofs.TestLaws.{tests, All, cond-true, cond-false, false-true}
 use Rattle.account.specs.declared.Pending.{Pending}
 use Rattle.account.specs.declared.Account.{Account}
-use Rattle.account.specs.declared.Place.{Place}
-use Rattle.account.specs.declared.Place.the-variants.{Low, Upper}
+use Rattle.sporadic.specs.declared.Place.{Place}
+use Rattle.sporadic.specs.declared.Place.the-variants.{Low, Upper}
 use Rattle.account.specs.Account.{isUpper, freshAccount}
-use Rattle.account.specs.Rules.{wakeEffect, blocking, waking}
+use Rattle.account.specs.Rules.{blocking, waking}
+use Rattle.sporadic.specs.Rules.{wakeEffect}
 use Rattle.account.specs.Sound.{runsUpper}
-use Rattle.account.proofs.SoundLaws.{AccountSound, Sent, block-sound, wake-upper, wake-low, fresh-sound, upper-room}
+use Rattle.account_laws.proofs.SoundLaws.{AccountSound, Sent, block-sound, wake-upper, wake-low, fresh-sound, upper-room}
 use Rattle.state.specs.declared.Thread.{Thread}
 use Rattle.state.specs.State.{isBlocked, assigned}
 use Rattle.state.proofs.SoundLaws.{ThreadSound, range-out, fifo-out, rr-out, sporadic-out}

@@ -14,9 +14,10 @@ use Rattle.records.specs.Ranges.{byPolicy, inRange, allZero}
 use Rattle.base.proofs.TestLaws.{tests, cond-elim, cond-true, cond-false, false-true}
 use Rattle.account.specs.declared.Pending.{Pending}
 use Rattle.account.specs.declared.Account.{Account}
-use Rattle.account.specs.Account.{atUpper, isUpper}
-use Rattle.account.specs.declared.Place.the-variants.{Low, Upper}
-use Rattle.account.specs.Rules.{activated, applied, unchanged, sent, waking}
+use Rattle.account.specs.Account.{isUpper}
+use Rattle.sporadic.specs.Rules.{atUpper, activated, unchanged, sent}
+use Rattle.sporadic.specs.declared.Place.the-variants.{Low, Upper}
+use Rattle.account.specs.Rules.{applied, waking}
 use Rattle.ready.specs.Lists.{appended, removed, moved}
 use Rattle.ready.specs.Word.{occupancy}
 use Rattle.ready.proofs.Soundness.{ListsSound}

@@ -9,7 +9,7 @@ use Rattle.base.proofs.TestLaws.{tests, false-true}
 use Rattle.records.specs.Ranges.{inRange}
 use Rattle.account.specs.declared.Pending.{Pending}
 use Rattle.account.specs.Sound.{runsUpper}
-use Rattle.account.proofs.SoundLaws.{AccountSound, upper-room}
+use Rattle.account_laws.proofs.SoundLaws.{AccountSound, upper-room}
 use Rattle.state.specs.declared.Thread.{Thread}
 use Rattle.state.specs.declared.State.{State}
 use Rattle.state.specs.State.{isBlocked, threadAt, pendingAt}

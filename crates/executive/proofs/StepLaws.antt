@@ -2,9 +2,10 @@
 use Prim.Native.Nat.{ℕ, zero, suc, _+_, _-_, _≤_, _<_}
 use mathlib.Core.Bool.{Bool, true, false, cond, not}
 use mathlib.Core.Path.{_≡_, refl, sym, ap, _∙_, subst⁻¹}
-use mathlib.Core.List.{[], _∷_}
+use mathlib.Core.List.{List, [], _∷_}
 use lib.Dec.{ltb, eqb}
 use native.Mathlib.Omega.{arith}
+use native.Mathlib.Decide.{ℕ-discrete}
 use borrow.Author.Tests.{ne-eqb, eqb-true, eqb-false, not-true, not-false}
 use Rattle.records.specs.declared.Event.{Event}
 use Rattle.records.specs.Ranges.{lastTime, longestStep}
@@ -33,6 +34,15 @@ use Rattle.executive.specs.Steps.{soundStatus}
 use Rattle.executive.proofs.StatusLaws.{time-zero, early-small, state-small, early-zero, thread-small}
 use Rattle.executive.proofs.KeptLaws.{status-kept}
 
+-- a refusal by the time comes before one by the state
+by-time : (d : ℕ) (a b c : Bool) → (firstRefusal ((a, 3) ∷ (b, 1) ∷ (c, 2) ∷ []) ≡ 0 → ⊥)
+    → firstRefusal ((a, 3) ∷ (b, 1) ∷ (c, 2) ∷ given d ∷ []) ≡ firstRefusal ((a, 3) ∷ (b, 1) ∷ (c, 2) ∷ [])
+unfolding firstRefusal
+by-time d true b c m = refl
+by-time d false true c m = refl
+by-time d false false true m = refl
+by-time d false false false m = absurd (m refl)
+
 -- the first of the statuses, where the state is sound: x that it isn't; f by the fields; a, b, c by the time; d by the state
 module _ (x : Bool) (f : ℕ) (a b c : Bool) (d : ℕ) (e : x ≡ false) where
   abbrev byTime : ℕ
@@ -42,19 +52,14 @@ module _ (x : Bool) (f : ℕ) (a b c : Bool) (d : ℕ) (e : x ≡ false) where
   all = firstRefusal ((x, 9) ∷ given f ∷ (a, 3) ∷ (b, 1) ∷ (c, 2) ∷ given d ∷ [])
 
   first-early : (firstRefusal (given f ∷ given byTime ∷ []) ≡ 0 → ⊥) → all ≡ firstRefusal (given f ∷ given byTime ∷ [])
-  unfolding firstRefusal
-  first-early n = past x 9 _ e ∙ go (ℕ-discrete f 0)
+  first-early n = past x 9 (given f ∷ rest) e ∙ go (ℕ-discrete f 0)
     where
-      times : (a b c : Bool) → (firstRefusal ((a, 3) ∷ (b, 1) ∷ (c, 2) ∷ []) ≡ 0 → ⊥)
-          → firstRefusal ((a, 3) ∷ (b, 1) ∷ (c, 2) ∷ given d ∷ []) ≡ firstRefusal ((a, 3) ∷ (b, 1) ∷ (c, 2) ∷ [])
-      times true b c m = refl
-      times false true c m = refl
-      times false false true m = refl
-      times false false false m = absurd (m refl)
+      rest : List (Bool × ℕ)
+      rest = (a, 3) ∷ (b, 1) ∷ (c, 2) ∷ given d ∷ []
 
-      go : Dec (f ≡ 0) → firstRefusal (given f ∷ (a, 3) ∷ (b, 1) ∷ (c, 2) ∷ given d ∷ []) ≡ firstRefusal (given f ∷ given byTime ∷ [])
-      go (yes z) = given-zero f _ z ∙ times a b c (λ y. n (given-second f byTime z ∙ y)) ∙ sym (given-second f byTime z)
-      go (no m) = given-first f _ m ∙ sym (given-first f _ m)
+      go : Dec (f ≡ 0) → firstRefusal (given f ∷ rest) ≡ firstRefusal (given f ∷ given byTime ∷ [])
+      go (yes z) = given-zero f rest z ∙ by-time d a b c (λ y. n (given-second f byTime z ∙ y)) ∙ sym (given-second f byTime z)
+      go (no m) = given-first f rest m ∙ sym (given-first f (given byTime ∷ []) m)
 
   first-late : f ≡ 0 → byTime ≡ 0 → all ≡ d
   first-late z g =

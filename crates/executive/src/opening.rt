@@ -11,9 +11,9 @@ ghost use Rattle.ready.specs.Rules.{Joinable};
 ghost use Rattle.events.specs.Opening.{emptyState, withoutFlag, entered, enteredBelow, openStatus};
 use super::effects;
 use super::parts;
-use account::Server;
 use records::Header;
 use records::Parameters;
+use sporadic::Server;
 use state::State;
 use state::Thread;
 

@@ -10,9 +10,9 @@ ghost use Rattle.events.specs.Answers.{fieldStatusOf, stateStatusOf};
 ghost use Rattle.state.specs.Updates.{withBlocked};
 use account::Account;
 use account::Pending;
-use account::Server;
 use records::Event;
 use records::Parameters;
+use sporadic::Server;
 use state::Thread;
 
 // A thread's number as an index that never strays; 0 where there is no such place.

@@ -1,9 +1,9 @@
 // Parameters, events and the state of zeros.
 use super::change;
-use account::Server;
 use records::Event;
 use records::Header;
 use records::Parameters;
+use sporadic::Server;
 use state::State;
 use state::Thread;
 

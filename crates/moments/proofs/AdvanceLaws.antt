@@ -9,9 +9,11 @@ use lib.Dec.{eqb}
 use native.Mathlib.Omega.{arith}
 use borrow.Author.Tests.{eqb-true, eqb-false}
 use Rattle.base.proofs.TestLaws.{tests, cond-true, cond-false}
-use Rattle.account.specs.declared.Effect.{Effect}
-use Rattle.account.specs.Rules.{pendingAfter, Room, Schedulable, limitEffect, returnEffect, returnFirst}
-use Rattle.account.proofs.EffectLaws.{limit-keeps, limit-room, return-room}
+use Rattle.sporadic.specs.declared.Effect.{Effect}
+use Rattle.account.specs.Rules.{pendingAfter, Room, Schedulable, returnFirst}
+use Rattle.sporadic.specs.Rules.{limitEffect, returnEffect}
+use Rattle.sporadic.proofs.EffectLaws.{limit-keeps}
+use Rattle.account.proofs.RoomLaws.{limit-room, return-room}
 use Rattle.ready.specs.Lists.{moved}
 use Rattle.ready.specs.Word.{occupancy}
 use Rattle.ready.specs.Rules.{Movable}

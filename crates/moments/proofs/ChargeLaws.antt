@@ -12,14 +12,14 @@ use borrow.Author.Tests.{eqb-true, eqb-false, eq-eqb, ne-eqb, lt-ltb, ltb-true}
 use Rattle.records.specs.declared.Parameters.{Parameters}
 use Rattle.records.specs.Ranges.{byPolicy}
 use Rattle.base.proofs.TestLaws.{tests, All, cond-true, cond-false, false-true}
-use Rattle.account.specs.declared.Server.{Server}
+use Rattle.sporadic.specs.declared.Server.{Server}
 use Rattle.account.specs.declared.Pending.{Pending}
 use Rattle.account.specs.declared.Account.{Account}
-use Rattle.account.specs.Account.{atUpper, isUpper, firstDue}
-use Rattle.account.specs.Rules.{charged}
+use Rattle.account.specs.Account.{isUpper, firstDue}
+use Rattle.sporadic.specs.Rules.{atUpper, charged}
 use Rattle.account.specs.Sound.{runsUpper, dueTests, dueEnd}
-use Rattle.account.proofs.ChargeLaws as account
-use Rattle.account.proofs.SoundLaws.{AccountSound, time-passes, charge-sound, upper-room}
+use Rattle.sporadic.proofs.ChargeLaws as account
+use Rattle.account_laws.proofs.SoundLaws.{AccountSound, time-passes, charge-sound, upper-room}
 use Rattle.ready.specs.Word.{highestOf}
 use Rattle.ready.proofs.SoundLaws.{sound-same, highest-sound}
 use Rattle.state.specs.declared.Thread.{Thread}

@@ -11,18 +11,18 @@ use borrow.Author.Tests.{eqb-true, eq-eqb, ne-eqb, lt-ltb, le-ltb, ltb-false}
 use Rattle.records.specs.declared.Header.{Header}
 use Rattle.base.proofs.TestLaws.{tests, All, cond-elim, cond-true, cond-false, false-true}
 use Rattle.records.proofs.PolicyLaws.{policy-elim}
-use Rattle.account.specs.declared.Server.{Server}
+use Rattle.sporadic.specs.declared.Server.{Server}
 use Rattle.account.specs.declared.Pending.{Pending}
 use Rattle.account.specs.declared.Account.{Account}
-use Rattle.account.specs.declared.Effect.{Effect}
-use Rattle.account.specs.declared.Place.{Place}
-use Rattle.account.specs.declared.Place.the-variants.{Stays, Upper}
-use Rattle.account.specs.Account.{atUpper}
-use Rattle.account.specs.Rules.{applied, limitEffect, firstIsDue, returnFirst}
+use Rattle.sporadic.specs.declared.Effect.{Effect}
+use Rattle.sporadic.specs.declared.Place.{Place}
+use Rattle.sporadic.specs.declared.Place.the-variants.{Stays, Upper}
+use Rattle.sporadic.specs.Rules.{atUpper, limitEffect}
+use Rattle.account.specs.Rules.{applied, firstIsDue, returnFirst}
 use Rattle.account.specs.Sound.{runsUpper}
 use Rattle.account.proofs.ReturnLaws.{due-some, first-counted}
-use Rattle.account.proofs.SoundLaws.{AccountSound, none-sound, Returned, return-sound}
-use Rattle.account.proofs.SoundLaws.Returned.{stays, raised}
+use Rattle.account_laws.proofs.SoundLaws.{AccountSound, none-sound, Returned, return-sound}
+use Rattle.account_laws.proofs.SoundLaws.Returned.{stays, raised}
 use Rattle.ready.specs.Lists.{moved}
 use Rattle.ready.specs.Word.{occupancy}
 use Rattle.ready.proofs.Soundness.{ListsSound}

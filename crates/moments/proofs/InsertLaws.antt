@@ -7,7 +7,7 @@ use lib.ListN.{length, getD, set, length-set}
 use lib.Seq.{getD-set-same, getD-set-other}
 use native.Mathlib.Omega.{arith}
 use Rattle.account.specs.declared.Pending.{Pending}
-use Rattle.account.specs.declared.Effect.{Effect}
+use Rattle.sporadic.specs.declared.Effect.{Effect}
 use Rattle.account.specs.Rules.{pendingAfter}
 use Rattle.account.proofs.EntryLaws.{added-elim}
 use Rattle.rows.specs.Rows.{withSlots}

@@ -11,16 +11,17 @@ use native.Mathlib.Decide.{ℕ-discrete}
 use borrow.Author.Tests.{eqb-true, eq-eqb, ne-eqb}
 use Rattle.records.specs.declared.Parameters.{Parameters}
 use Rattle.base.proofs.TestLaws.{tests, All, cond-true, cond-false}
-use Rattle.account.specs.declared.Server.{Server}
+use Rattle.sporadic.specs.declared.Server.{Server}
 use Rattle.account.specs.declared.Pending.{Pending}
 use Rattle.account.specs.declared.Account.{Account}
-use Rattle.account.specs.declared.Effect.{Effect}
-use Rattle.account.specs.declared.Place.{Place}
-use Rattle.account.specs.declared.Place.the-variants.{Low, LowThenUpper}
+use Rattle.sporadic.specs.declared.Effect.{Effect}
+use Rattle.sporadic.specs.declared.Place.{Place}
+use Rattle.sporadic.specs.declared.Place.the-variants.{Low, LowThenUpper}
 use Rattle.account.specs.Account.{isUpper}
-use Rattle.account.specs.Rules.{charged, applied, limitEffect}
+use Rattle.account.specs.Rules.{applied}
+use Rattle.sporadic.specs.Rules.{charged, limitEffect}
 use Rattle.account.specs.Sound.{runsUpper}
-use Rattle.account.proofs.SoundLaws.{AccountSound, charge-sound, upper-room, Sent, limit-sent}
+use Rattle.account_laws.proofs.SoundLaws.{AccountSound, charge-sound, upper-room, Sent, limit-sent}
 use Rattle.ready.specs.Lists.{moved}
 use Rattle.ready.specs.Word.{occupancy}
 use Rattle.ready.proofs.Soundness.{ListsSound}

@@ -10,7 +10,7 @@ use native.Mathlib.Omega.{arith}
 use borrow.Author.Tests.{eqb-false, eq-eqb}
 use Rattle.records.specs.Ranges.{byPolicy}
 use Rattle.base.proofs.TestLaws.{tests, cond-elim, cond-true, cond-false}
-use Rattle.account.specs.declared.Server.{Server}
+use Rattle.sporadic.specs.declared.Server.{Server}
 use Rattle.account.specs.declared.Pending.{Pending}
 use Rattle.ready.specs.Lists.{headOf}
 use Rattle.ready.specs.Rules.{Held}

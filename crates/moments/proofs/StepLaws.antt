@@ -11,16 +11,17 @@ use native.Mathlib.Decide.{ℕ-discrete}
 use borrow.Author.Tests.{eq-eqb, ltb-true}
 use Rattle.records.specs.declared.Parameters.{Parameters}
 use Rattle.base.proofs.TestLaws.{tests, All, cond-true, cond-false}
-use Rattle.account.specs.declared.Server.{Server}
+use Rattle.sporadic.specs.declared.Server.{Server}
 use Rattle.account.specs.declared.Pending.{Pending}
-use Rattle.account.specs.declared.Effect.{Effect}
-use Rattle.account.specs.declared.Place.{Place}
-use Rattle.account.specs.declared.Place.the-variants.{Stays, Low, LowThenUpper, Upper}
-use Rattle.account.specs.Account.{atUpper, isUpper}
-use Rattle.account.specs.Rules.{charged, Schedulable, limitEffect, returnFirst}
-use Rattle.account.proofs.EffectLaws.{limit-elim, at-limit-elim, return-elim}
+use Rattle.sporadic.specs.declared.Effect.{Effect}
+use Rattle.sporadic.specs.declared.Place.{Place}
+use Rattle.sporadic.specs.declared.Place.the-variants.{Stays, Low, LowThenUpper, Upper}
+use Rattle.account.specs.Account.{isUpper}
+use Rattle.sporadic.specs.Rules.{atUpper, charged, limitEffect}
+use Rattle.account.specs.Rules.{Schedulable, returnFirst}
+use Rattle.sporadic.proofs.EffectLaws.{limit-elim, at-limit-elim, return-elim}
 use Rattle.account.specs.Sound.{runsUpper}
-use Rattle.account.proofs.SoundLaws.{AccountSound, upper-room}
+use Rattle.account_laws.proofs.SoundLaws.{AccountSound, upper-room}
 use Rattle.ready.specs.Lists.{moved}
 use Rattle.ready.specs.Word.{occupancy}
 use Rattle.ready.specs.Rules.{Movable}

@@ -16,9 +16,10 @@ use Rattle.records.specs.Ranges.{byPolicy}
 use Rattle.base.proofs.TestLaws.{tests, cond-elim, cond-true, cond-false}
 use Rattle.records.proofs.PolicyLaws.{policy-elim}
 use Rattle.account.specs.declared.Pending.{Pending}
-use Rattle.account.specs.declared.Effect.{Effect}
-use Rattle.account.specs.Rules.{charged, countAfter, slotsAfter, applied, limitEffect, firstIsDue, returnFirst}
-use Rattle.account.proofs.EffectLaws.{limit-keeps}
+use Rattle.sporadic.specs.declared.Effect.{Effect}
+use Rattle.account.specs.Rules.{countAfter, slotsAfter, applied, firstIsDue, returnFirst}
+use Rattle.sporadic.specs.Rules.{charged, limitEffect}
+use Rattle.sporadic.proofs.EffectLaws.{limit-keeps}
 use Rattle.account.proofs.EntryLaws.{slots-length, added-elim}
 use Rattle.account.proofs.ReturnLaws.{first-counted}
 use Rattle.account.specs.Sound.{sum}

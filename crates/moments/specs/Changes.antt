@@ -2,9 +2,9 @@
 use Prim.Native.Nat.{ℕ}
 use mathlib.Core.List.{List}
 use Rattle.records.specs.declared.Parameters.{Parameters}
-use Rattle.account.specs.declared.Place.{Place}
-use Rattle.account.specs.declared.Place.the-variants.{Stays, Low, LowThenUpper, Upper}
-use Rattle.account.specs.declared.Effect.{Effect}
+use Rattle.sporadic.specs.declared.Place.{Place}
+use Rattle.sporadic.specs.declared.Place.the-variants.{Stays, Low, LowThenUpper, Upper}
+use Rattle.sporadic.specs.declared.Effect.{Effect}
 use Rattle.account.specs.Rules.{applied}
 use Rattle.ready.specs.Lists.{moved}
 use Rattle.state.specs.declared.State.{State}

@@ -4,7 +4,8 @@ use mathlib.Core.Bool.{false, cond, _&&_}
 use lib.ListN.{getD}
 use lib.Dec.{eqb}
 use Rattle.records.specs.Ranges.{byPolicy}
-use Rattle.account.specs.Rules.{limitEffect, firstIsDue, returnFirst}
+use Rattle.account.specs.Rules.{firstIsDue, returnFirst}
+use Rattle.sporadic.specs.Rules.{limitEffect}
 use Rattle.ready.specs.Lists.{moved}
 use Rattle.passing.specs.Time.{Clock, advance}
 use Rattle.state.specs.declared.Thread.{Thread}

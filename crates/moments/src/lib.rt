@@ -5,8 +5,9 @@ ghost use Prim.Native.Nat.{_<_, _≤_, _^_};
 ghost use lib.Dec.{eqb};
 ghost use lib.ListN.{length};
 ghost use Rattle.records.specs.Ranges.{mostThreads};
-ghost use Rattle.account.specs.Rules.{dueOf, limitEffect, returnEffect, Room, slotsAfter};
-ghost use Rattle.account.specs.declared.Place.the-variants.{Stays, Low, LowThenUpper, Upper};
+ghost use Rattle.account.specs.Rules.{Room, slotsAfter};
+ghost use Rattle.sporadic.specs.Rules.{dueOf, limitEffect, returnEffect};
+ghost use Rattle.sporadic.specs.declared.Place.the-variants.{Stays, Low, LowThenUpper, Upper};
 ghost use Rattle.ready.specs.Lists.{moved};
 ghost use Rattle.ready.specs.Word.{occupancy};
 ghost use Rattle.ready.specs.Rules.{Movable};
@@ -18,11 +19,11 @@ ghost use Rattle.moments.specs.Changes.{sentTo};
 ghost use Rattle.moments.specs.Moments.{passed};
 ghost use Rattle.state.specs.Updates.{withLeft};
 use account::ENTRIES;
-use account::Effect;
-use account::Place;
 use base::wide;
 use records::Parameters;
 use rows::SLOTS;
+use sporadic::Effect;
+use sporadic::Place;
 use state::State;
 use state::Thread;
 
@@ -116,9 +117,9 @@ fn effect_at(limited: bool, time: u64, t: Thread, count: u8, amount: u64) -> Eff
     let p = t.parameters;
     let v = t.server;
     if limited {
-        return account::limit_effect(p, v, false, time);
+        return sporadic::limit_effect(p, v, false, time);
     }
-    account::return_effect(p, v, count, amount, 0 < t.blocked, time)
+    sporadic::return_effect(p, v, count, amount, 0 < t.blocked, time)
 }
 
 // Thread i's dues or amounts after it: x is the due time or the amount of an entry that came.

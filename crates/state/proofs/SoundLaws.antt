@@ -11,10 +11,10 @@ use Rattle.records.specs.declared.Parameters.{Parameters}
 use Rattle.base.specs.Tests.{all, zeros}
 use Rattle.records.specs.Ranges.{byPolicy, inRange, allZero, fifoInRange, rrInRange, sporadicInRange, noParameters}
 use Rattle.base.proofs.TestLaws.{tests, All, all-true, true-all, below-at, at-below, zeros-eq, cond-true, cond-false}
-use Rattle.account.specs.declared.Server.{Server}
+use Rattle.sporadic.specs.declared.Server.{Server}
 use Rattle.account.specs.declared.Pending.{Pending}
 use Rattle.account.specs.Sound.{soundAt, runsUpper}
-use Rattle.account.proofs.SoundLaws.{AccountSound, sound-in, sound-out}
+use Rattle.account_laws.proofs.SoundLaws.{AccountSound, sound-in, sound-out}
 use Rattle.ready.proofs.Soundness.{ListsSound, sound-true, true-sound}
 use Rattle.rows.proofs.RowLaws.{row-length}
 use Rattle.state.specs.declared.Thread.{Thread}

@@ -6,7 +6,7 @@ use lib.ListN.{length}
 use lib.Dec.{ltb, leb, eqb}
 use Rattle.base.specs.Tests.{all, below, zeros}
 use Rattle.records.specs.Ranges.{byPolicy, mostThreads, mostReplenishments, lastTime, inRange, allZero}
-use Rattle.account.specs.declared.Server.{Server}
+use Rattle.sporadic.specs.declared.Server.{Server}
 use Rattle.account.specs.declared.Pending.{Pending}
 use Rattle.account.specs.Sound.{soundAt}
 use Rattle.ready.specs.Sound.{soundLists}

@@ -4,10 +4,10 @@ use mathlib.Core.Bool.{Bool, cond}
 use lib.ListN.{getD}
 use lib.Dec.{ltb}
 use Rattle.records.specs.Ranges.{byPolicy, noParameters}
-use Rattle.account.specs.declared.Server.{Server}
+use Rattle.sporadic.specs.declared.Server.{Server}
 use Rattle.account.specs.declared.Pending.{Pending}
 use Rattle.account.specs.declared.Account.{Account}
-use Rattle.account.specs.Account.{atUpper}
+use Rattle.sporadic.specs.Rules.{atUpper}
 use Rattle.rows.specs.Rows.{pendingOf}
 use Rattle.state.specs.declared.Thread.{Thread}
 use Rattle.state.specs.declared.State.{State}

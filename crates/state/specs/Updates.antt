@@ -4,7 +4,7 @@ use mathlib.Core.List.{List}
 use lib.ListN.{set}
 use Rattle.records.specs.declared.Parameters.{Parameters}
 use Rattle.records.specs.declared.Header.{Header}
-use Rattle.account.specs.declared.Server.{Server}
+use Rattle.sporadic.specs.declared.Server.{Server}
 use Rattle.account.specs.declared.Account.{Account}
 use Rattle.ready.specs.Word.{occupancy}
 use Rattle.rows.specs.Rows.{withSlots}

@@ -4,9 +4,9 @@ ghost use lib.ListN.{length};
 ghost use Rattle.state.specs.State.{placeOf};
 ghost use Rattle.state.specs.Sound.{soundState};
 ghost use Rattle.state.specs.Updates.{withServer, stateOf};
-use account::Server;
 use records::Header;
 use records::Parameters;
+use sporadic::Server;
 
 mod tests; // tests.rt: what soundness asks of one thread
 
@@ -61,7 +61,7 @@ pub fn assigned_place(t: Thread, count: u8) -> u8
     if p.policy < 2 {
         return p.priority;
     }
-    if account::at_upper(p, t.server.capacity, count) {
+    if sporadic::at_upper(p, t.server.capacity, count) {
         return p.priority;
     }
     p.low

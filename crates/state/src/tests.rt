@@ -8,7 +8,7 @@ ghost use Rattle.rows.specs.Rows.{slotsAt, pendingOf};
 ghost use Rattle.state.specs.Sound.{noAccountTests, leftTests, accountTest, presentTest, absentTest};
 use super::Thread;
 use account::Account;
-use account::Server;
+use sporadic::Server;
 
 // Whether thread i's eight places hold 0.
 fn row_zero(xs: &[u64; 256], i: usize) -> bool

@@ -7,8 +7,8 @@ use native.Mathlib.Omega.{arith}
 use borrow.Author.Tests.{eq-eqb, ne-eqb}
 use Rattle.records.specs.Ranges.{byPolicy}
 use Rattle.base.proofs.TestLaws.{cond-true, cond-false}
-use Rattle.account.specs.declared.Server.{Server}
-use Rattle.account.specs.Rules.{charged}
+use Rattle.sporadic.specs.declared.Server.{Server}
+use Rattle.sporadic.specs.Rules.{charged}
 use Rattle.state.specs.declared.Thread.{Thread}
 use Rattle.ticks.specs.Running.{ran, limitOf}
 

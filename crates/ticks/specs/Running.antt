@@ -7,7 +7,7 @@ use lib.ListN.{getD, set}
 use lib.Dec.{ltb, eqb}
 use Rattle.records.specs.Ranges.{byPolicy, mostThreads}
 use Rattle.account.specs.Account.{entries}
-use Rattle.account.specs.Rules.{charged}
+use Rattle.sporadic.specs.Rules.{charged}
 use Rattle.ready.specs.Lists.{headOf}
 use Rattle.ready.specs.Word.{highestOf}
 use Rattle.state.specs.declared.Thread.{Thread}

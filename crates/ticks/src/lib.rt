@@ -185,7 +185,7 @@ fn ran_thread(p: u8, k: u64, t: Thread) -> Thread
             server: v,
         };
     }
-    let w = account::charge(v, charged_ticks(p, q.priority, k));
+    let w = sporadic::charge(v, charged_ticks(p, q.priority, k));
     Thread {
         parameters: q,
         blocked: t.blocked,

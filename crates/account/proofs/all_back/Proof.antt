@@ -1,8 +1,8 @@
 -- `account::all_back` meets its contract. The invariant: what is left to come back gives the same account.
 use Rattle.account.proofs.ReturnLaws.{due-some, first-counted, returned-done, returned-more}
-use Rattle.account.proofs.EffectLaws.{return-room}
+use Rattle.account.proofs.RoomLaws.{return-room}
 use Rattle.account.specs.Rules.{applied, returned}
-use Rattle.account.specs.declared.Effect.{Effect}
+use Rattle.sporadic.specs.declared.Effect.{Effect}
 use native.Mathlib.Omega.{arith}
 use lib.ListN.{getD}
 use mathlib.Core.Path.{_≡_, refl, sym, ap, _∙_}

@@ -1,5 +1,5 @@
 -- `account::block` meets its contract.
-use Rattle.account.proofs.EffectLaws.{block-room}
+use Rattle.account.proofs.RoomLaws.{block-room}
 use borrow.Author.Needs.{needs}
 use Rattle.account.proofs.block.Statement.{statement}
 use Rattle.account.proofs.block.Tie as tie

@@ -1,5 +1,5 @@
 -- `account::limit_reached` meets its contract.
-use Rattle.account.proofs.EffectLaws.{limit-room}
+use Rattle.account.proofs.RoomLaws.{limit-room}
 use borrow.Author.Needs.{needs}
 use Rattle.account.proofs.limit_reached.Statement.{statement}
 use Rattle.account.proofs.limit_reached.Tie as tie

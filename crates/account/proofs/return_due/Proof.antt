@@ -1,7 +1,7 @@
 -- `account::return_due` meets its contract.
 use Rattle.account.specs.Rules.{firstIsDue, returnFirst}
-use Rattle.account.specs.declared.Place.the-variants.{Stays}
-use Rattle.account.specs.declared.Effect.{Effect}
+use Rattle.sporadic.specs.declared.Place.the-variants.{Stays}
+use Rattle.sporadic.specs.declared.Effect.{Effect}
 use Rattle.base.proofs.TestLaws.{cond-true, cond-false}
 use mathlib.Core.Path.{sym, ap, _∙_}
 use borrow.Author.Needs.{needs}

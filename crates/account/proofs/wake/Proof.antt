@@ -1,5 +1,5 @@
 -- `account::wake` meets its contract.
-use Rattle.account.proofs.EffectLaws.{wake-room}
+use Rattle.account.proofs.RoomLaws.{wake-room}
 use borrow.Author.Needs.{needs}
 use Rattle.account.proofs.wake.Statement.{statement}
 use Rattle.account.proofs.wake.Tie as tie

@@ -10,7 +10,7 @@ use borrow.Author.Tests.{not-true, not-false}
 use Rattle.base.specs.Tests.{all}
 use Rattle.base.proofs.TestLaws.{tests, all-false, all-true, all-one, cond-elim}
 use Rattle.records.specs.declared.Parameters.{Parameters}
-use Rattle.account.specs.declared.Server.{Server}
+use Rattle.sporadic.specs.declared.Server.{Server}
 use Rattle.account.specs.declared.Account.{Account}
 use Rattle.account.specs.Account.{pendingDues, pendingAmounts}
 use Rattle.account.specs.Sound.{runsUpper, dueEnd, numberTests, amountTests, dueTests, slotTests, soundTests, soundAt}

@@ -3,7 +3,7 @@ use Prim.Native.Nat.{ℕ}
 use mathlib.Core.Path.{_≡_, refl, sym, ap, subst₂, _∙_}
 use mathlib.Core.List.{List}
 use Rattle.records.specs.declared.Parameters.{Parameters}
-use Rattle.account.specs.declared.Place.{Place}
+use Rattle.sporadic.specs.declared.Place.{Place}
 use Rattle.ready.specs.Lists.{moved}
 use Rattle.ready.specs.Word.{occupancy}
 use Rattle.ready.specs.Rules.{Movable}

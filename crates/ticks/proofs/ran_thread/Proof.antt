@@ -6,7 +6,7 @@ use mathlib.Core.Path.{ap, _∙_, subst⁻¹}
 use lib.Dec.{eqb}
 use borrow.Author.Tests.{eqb-true}
 use Rattle.base.proofs.TestLaws.{cond-elim}
-use Rattle.account.specs.Rules.{charged}
+use Rattle.sporadic.specs.Rules.{charged}
 use Rattle.ticks.proofs.RunLaws.{ran-fifo, ran-rr, ran-sporadic}
 use Rattle.ticks.proofs.ran_thread.Statement.{statement}
 use Rattle.ticks.proofs.ran_thread.Tie as tie

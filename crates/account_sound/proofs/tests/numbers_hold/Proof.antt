@@ -9,7 +9,7 @@ use borrow.Author.Tests.{lt-leb, le-leb, eq-eqb, ne-eqb}
 use Rattle.records.specs.declared.Parameters.{Parameters}
 use Rattle.base.specs.Tests.{all}
 use Rattle.base.proofs.TestLaws.{all-false, all-one, leb-same}
-use Rattle.account.specs.declared.Server.{Server}
+use Rattle.sporadic.specs.declared.Server.{Server}
 use Rattle.account.specs.Sound.{numberTests}
 use Rattle.account_sound.proofs.tests.numbers_hold.Statement.{statement}
 use Rattle.account_sound.proofs.tests.numbers_hold.Tie as tie

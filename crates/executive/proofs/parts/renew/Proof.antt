@@ -3,7 +3,7 @@ use borrow.Author.Needs.{needs}
 use mathlib.Core.Path.{ap}
 use Prim.Native.Nat.{ℕ}
 use Rattle.records.specs.declared.Parameters.{Parameters}
-use Rattle.account.specs.declared.Server.{Server}
+use Rattle.sporadic.specs.declared.Server.{Server}
 use Rattle.state.specs.declared.Thread.{Thread}
 use Rattle.executive.proofs.parts.renew.Statement.{statement}
 use Rattle.executive.proofs.parts.renew.Tie as tie

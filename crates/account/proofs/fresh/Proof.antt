@@ -1,0 +1,10 @@
+-- `account::fresh` meets its contract.
+use mathlib.Core.Path.{refl}
+use Rattle.account.proofs.fresh.Statement.{statement}
+use Rattle.account.proofs.fresh.Tie as tie
+
+returns : tie.Need-returns
+returns c = refl
+
+pub fresh-spec : {M : Type 1} → statement M
+fresh-spec = tie.close (tie.spec returns)

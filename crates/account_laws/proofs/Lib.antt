@@ -1,0 +1,2 @@
+-- Laws of sound accounts.
+pub mod SoundLaws

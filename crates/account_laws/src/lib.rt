@@ -1,0 +1,1 @@
+// What keeps an account sound, rule by rule. No code.

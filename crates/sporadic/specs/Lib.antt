@@ -1,0 +1,2 @@
+-- What a reader of `sporadic` must believe.
+pub mod Rules
