@@ -1,19 +1,23 @@
--- What each kind of event does to the state at its time (01 Events 2 to 6).
+-- What each kind of event does to the state at its time (01 Events 2 to 6): one thread changes, with its account and its list.
 use Prim.Native.Nat.{ℕ, zero, suc}
 use mathlib.Core.Bool.{true, false, cond}
-use lib.ListN.{getD, replicate}
+use mathlib.Core.List.{List}
+use lib.Dec.{leb, eqb}
+use lib.ListN.{replicate}
 use Rattle.records.specs.declared.Parameters.{Parameters}
 use Rattle.records.specs.declared.Event.{Event}
 use Rattle.records.specs.Ranges.{byPolicy}
+use Rattle.records.specs.Kinds.{byKind}
 use Rattle.account.specs.declared.Account.{Account}
 use Rattle.account.specs.Account.{entries, freshAccount}
 use Rattle.account.specs.Rules.{blocking, waking}
 use Rattle.ready.specs.Lists.{appended, removed, moved}
 use Rattle.state.specs.declared.Thread.{Thread}
 use Rattle.state.specs.declared.State.{State}
-use Rattle.state.specs.State.{isBlocked, noServer, threadAt, accountAt, assigned}
-use Rattle.ticks.specs.Running.{level, head}
-use Rattle.state.specs.Updates.{withThread, withLists, withLeft, withAccount, withBlocked, withParameters}
+use Rattle.state.specs.State.{noServer, threadAt, accountAt, placeOf}
+use Rattle.state.specs.Updates.{withLists, withLeft, withAccount, withBlocked, withServer, withParameters}
+use Rattle.ticks.specs.Running.{head}
+use Rattle.events.specs.declared.Change.{Change}
 
 -- 01 Events 4 and 5: an RR thread gets a full quantum
 abbrev pub fullQuantum : Thread → Thread
@@ -22,22 +26,6 @@ fullQuantum t = withLeft (byPolicy (t .parameters .policy) (t .left) (t .paramet
 -- what a rule does to a sporadic thread's account; any other has none to change
 abbrev pub ifSporadic : Thread → Account → Account → Account
 ifSporadic t new a = byPolicy (t .parameters .policy) a a new
-
--- 01 Events 3: the running thread i leaves its list p; if sporadic, U is scheduled
-abbrev pub block : ℕ → ℕ → Thread → State → State
-block p i t s =
-    withLists (removed p i (s .lists))
-    (withAccount i (withBlocked 1 t) (ifSporadic t (blocking (s .now) false (t .parameters) (accountAt s i) .account) (accountAt s i)) s)
-
--- 01 Events 4: the running thread i becomes the tail of its list p; the activation time stays
-abbrev pub yield : ℕ → ℕ → Thread → State → State
-yield p i t s = withLists (moved i p p (s .lists)) (withThread i (fullQuantum t) s)
-
--- 01 Events 5: thread i becomes the tail of its assigned list; at the upper priority a sporadic one's activation time is now
-abbrev pub wake : ℕ → Thread → State → State
-wake i t s =
-    withLists (appended (assigned t (getD (s .counts) i 0)) i (s .lists))
-    (withAccount i (withBlocked 0 (fullQuantum t)) (ifSporadic t (waking (s .now) true (t .parameters) (accountAt s i) .account) (accountAt s i)) s)
 
 -- 01 State 17: no account
 abbrev pub noAccount : Account
@@ -50,24 +38,45 @@ renewed p t = withParameters p (withLeft (byPolicy (p .policy) 0 (p .budget) 0) 
 abbrev pub newAccount : ℕ → Parameters → Account
 newAccount now p = byPolicy (p .policy) noAccount noAccount (freshAccount now p)
 
--- 01 Events 6: thread i has new parameters; a runnable one becomes the tail of its new list
-abbrev pub set : ℕ → Thread → Parameters → State → State
-set i t p s =
-    withLists (cond (isBlocked t) (s .lists) (moved i (assigned t (getD (s .counts) i 0)) (p .priority) (s .lists)))
-    (withAccount i (renewed p t) (newAccount (s .now) p) s)
+-- 01 State 7: a thread t with account a that becomes u with account b leaves the list in which it stands, and becomes the tail of the one in
+-- which it then stands
+abbrev pub becomes : Thread → Account → Thread → Account → Change
+becomes t a u b = record { thread = u; account = b; from = placeOf t (a .pending .count); to = placeOf (withServer (b .server) u) (b .pending .count) }
 
--- 01 Events 2 to 6: by the kind
-abbrev pub byKind : {A : Type 0} → ℕ → A → A → A → A → A → A
-byKind zero clock block yield wake set = clock
-byKind (suc zero) clock block yield wake set = block
-byKind (suc (suc zero)) clock block yield wake set = yield
-byKind (suc (suc (suc zero))) clock block yield wake set = wake
-byKind (suc (suc (suc (suc n)))) clock block yield wake set = set
+-- what an event of a kind, with the parameters p, does now to the thread that it concerns
+unfoldable pub changeOf : ℕ → ℕ → Parameters → Thread → Account → Change
+changeOf kind now p t a =
+    byKind kind
+    -- 01 Events 2, clock: none
+    (record { thread = t; account = a; from = 0; to = 0 })
+    -- 01 Events 3, block: it leaves its list; if sporadic, U is scheduled
+    (becomes t a (withBlocked 1 t) (ifSporadic t (blocking now false (t .parameters) a .account) a))
+    -- 01 Events 4, yield: the tail of its list, with a full quantum; the activation time stays
+    (becomes t a (fullQuantum t) a)
+    -- 01 Events 5, wake: the tail of its assigned list, with a full quantum; at the upper priority a sporadic one's activation time is now
+    (becomes t a (withBlocked 0 (fullQuantum t)) (ifSporadic t (waking now true (t .parameters) a .account) a))
+    -- 01 Events 6, set: everything anew; a runnable one becomes the tail of its new list
+    (becomes t a (renewed p t) (newAccount now p))
 
+-- thread k leaves list `from` and becomes the tail of list `to`, 0 for none
+abbrev pub shifted : ℕ → ℕ → ℕ → List ℕ → List ℕ
+shifted k zero zero l = l
+shifted k zero (suc to) l = appended (suc to) k l
+shifted k (suc from) zero l = removed (suc from) k l
+shifted k (suc from) (suc to) l = moved k (suc from) (suc to) l
+
+-- the state with a change of thread k
+abbrev pub withChange : ℕ → Change → State → State
+withChange k c s = withLists (shifted k (c .from) (c .to) (s .lists)) (withAccount k (c .thread) (c .account) s)
+
+-- 01 Events 3 to 6: the thread that an event concerns: the running one, or the one that it names
+abbrev pub concerned : State → Event → ℕ
+concerned s e = cond (leb (e .kind) 2) (head s) (e .thread)
+
+-- its change, at the time now of the state
+abbrev pub eventChange : State → Event → Change
+eventChange s e = changeOf (e .kind) (s .now) (e .parameters) (threadAt s (concerned s e)) (accountAt s (concerned s e))
+
+-- 01 Events 2 to 6: nothing for a clock, else the change of the thread that the event concerns
 unfoldable pub effect : State → Event → State
-effect s e =
-    byKind (e .kind) s
-    (block (level s) (head s) (threadAt s (head s)) s)
-    (yield (level s) (head s) (threadAt s (head s)) s)
-    (wake (e .thread) (threadAt s (e .thread)) s)
-    (set (e .thread) (threadAt s (e .thread)) (e .parameters) s)
+effect s e = cond (eqb (e .kind) 0) s (withChange (concerned s e) (eventChange s e) s)

@@ -10,7 +10,7 @@ use Rattle.state.specs.Sound.{soundState}
 use Rattle.state.proofs.SoundLaws.{state-out}
 use Rattle.ticks.specs.Running.{level, running, earlier, limitOf, nextDue}
 use Rattle.moments.proofs.AnswerLaws.{next-is}
-use Rattle.executive.specs.Answer.{answered}
+use Rattle.executive.specs.Private.{answered}
 
 -- the highest list p, its head h, and thread i of that number
 pub answered-is : (status : ℕ) (s : State) → soundState s ≡ true → (p h i : ℕ) → p ≡ level s → h ≡ cond (eqb p 0) 0 (headOf p (s .lists)) → i ≡ h

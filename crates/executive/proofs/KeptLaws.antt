@@ -26,7 +26,7 @@ use Rattle.moments.proofs.FireLaws.{keeps-fire, header-fire}
 use Rattle.moments.proofs.ChargeLaws.{runs}
 use Rattle.moments.proofs.MomentLaws.{passing}
 use Rattle.events.specs.Answers.{stateStatusOf, stateStatus}
-use Rattle.events.proofs.EventLaws.{there-range}
+use Rattle.events.proofs.EventLaws.{there-some}
 
 -- another thread at one place, blocked as the one before it: so is every thread
 set-blocked : (ts : List Thread) (i : ℕ) (t : Thread) (k : ℕ) → t .blocked ≡ getD ts i noThread .blocked → getD (set ts i t) k noThread .blocked ≡ getD ts k noThread .blocked
@@ -63,7 +63,7 @@ awake-runs : (u : State) → Sound u → (k : ℕ) → k < u .header .n → k < 
 awake-runs u h k m l w = go (idles u) refl
   where
     somewhere : 1 ≤ place u k
-    somewhere = omega (arith, there-range u h k m .0, cond-false (isBlocked (threadAt u k)) 0 (assigned (threadAt u k) (getD (u .counts) k 0)) w)
+    somewhere = omega (arith, there-some u h k m, cond-false (isBlocked (threadAt u k)) 0 (assigned (threadAt u k) (getD (u .counts) k 0)) w)
 
     empty : level u ≡ 0 → ⊥
     empty z = by (eqb (u .word) 0) refl

@@ -32,7 +32,8 @@ use Rattle.state.specs.Sound.{soundState}
 use Rattle.state.proofs.SoundLaws.{state-in}
 use Rattle.events.specs.Answers.{executive}
 use Rattle.executive.specs.declared.Answer.{Answer}
-use Rattle.executive.specs.Answer.{returned, openAnswer, answered, unread}
+use Rattle.executive.specs.Answer.{returned, openAnswer}
+use Rattle.executive.specs.Private.{answered, unread}
 use Rattle.state.specs.Updates.{withLists, withAccount, withBlocked, stateOf}
 
 pub empty-is : (n start : ℕ) (l : List ℕ) → l ≡ replicate 1056 0

@@ -1,12 +1,11 @@
 -- What the functions that the effects call require, from the soundness of the state.
 use Prim.Native.Nat.{ℕ, _+_, _≤_, _<_, _^_}
-use mathlib.Core.Bool.{Bool, true, false, _&&_}
+use mathlib.Core.Bool.{Bool, true, false}
 use mathlib.Core.Path.{_≡_, refl, ap, subst⁻¹}
 use lib.ListN.{length}
-use lib.Dec.{eqb, ltb}
+use lib.Dec.{ltb}
 use native.Mathlib.Omega.{arith}
 use Rattle.base.proofs.TestLaws.{tests, false-true}
-use Rattle.records.specs.Ranges.{inRange}
 use Rattle.account.specs.declared.Pending.{Pending}
 use Rattle.account.specs.Sound.{runsUpper}
 use Rattle.account_laws.proofs.SoundLaws.{AccountSound, upper-room}
@@ -16,11 +15,6 @@ use Rattle.state.specs.State.{isBlocked, threadAt, pendingAt}
 use Rattle.state.specs.Sound.{soundState}
 use Rattle.state.proofs.SoundLaws.{ThreadSound, Sound, state-out}
 use Rattle.state.proofs.SoundLaws.ThreadSound.{absent, fifo, rr, sporadic}
-use Rattle.ticks.specs.Running.{idles}
-use Rattle.records.specs.declared.Event.{Event}
-use Rattle.events.specs.Answers.{fieldStatus, stateStatus}
-use Rattle.events.proofs.EventLaws.{and-both, fields, state}
-use borrow.Author.Tests.{leb-false, not-false}
 
 -- a due a period after the activation fits, and where something is charged there is room for one more
 used-room : (start now : ℕ) (t : Thread) (q : Pending) (u : Bool) → runsUpper (isBlocked t) (t .parameters) (record { server = t .server; pending = q }) ≡ u → t .parameters .«max_repl» ≤ 8
@@ -56,23 +50,3 @@ module _ (s : State) (a : soundState s ≡ true) where
   block-requires i m q e l =
       subst⁻¹ (λ (x : Pending). (threadAt s i .server .activation + threadAt s i .parameters .period < 2 ^ 64) × (0 < threadAt s i .server .used → x .count < 8)) e
       (schedule-fits (s .header .start) (s .now) (ltb i (s .header .n)) (threadAt s i) (pendingAt s i) (omega (tests, sound .sizes)) (sound .each i m) l)
-
-  -- what an event is known to meet that neither its fields nor the state refuse, by its kind
-  module _ (e : Event) (f : fieldStatus s e ≡ 0) (g : stateStatus s e ≡ 0) where
-    pub block-fits : e .kind ≡ 1 → (soundState s ≡ true) × (idles s ≡ false)
-    block-fits z = (a, state s sound e f g 1 z .0)
-
-    pub yield-fits : e .kind ≡ 2 → (soundState s ≡ true) × (idles s ≡ false)
-    yield-fits z = (a, state s sound e f g 2 z .0)
-
-    pub wake-fits : e .kind ≡ 3 → (soundState s ≡ true) × (e .thread < 32) × (isBlocked (threadAt s (e .thread)) ≡ true)
-    wake-fits z =
-        let m = leb-false (s .header .n) (e .thread) (fields s sound e f g 3 z .1) in
-        (a, omega (tests, sound .sizes, m), not-false (isBlocked (threadAt s (e .thread))) (state s sound e f g 3 z .1))
-
-    pub set-fits : e .kind ≡ 4 → (soundState s ≡ true) × (e .thread < s .header .n) × (inRange 8 (e .parameters) ≡ true)
-    set-fits z = (
-      a,
-      leb-false (s .header .n) (e .thread) (fields s sound e f g 4 z .1),
-      and-both (inRange 8 (e .parameters)) (eqb (e .parameters .flag) 0) (not-false (inRange 8 (e .parameters) && eqb (e .parameters .flag) 0) (fields s sound e f g 4 z .2)) .0,
-    )

@@ -1,17 +1,13 @@
 -- The states that the functions of the effects make are those that the definitions say.
 use Prim.Native.Nat.{ℕ}
-use mathlib.Core.Path.{_≡_, ap}
+use mathlib.Core.Path.{_≡_}
 use mathlib.Core.List.{List}
 use lib.ListN as lists
-use Rattle.records.specs.declared.Event.{Event}
 use Rattle.account.specs.declared.Account.{Account}
 use Rattle.ready.specs.Word.{occupancy}
 use Rattle.state.specs.declared.Thread.{Thread}
 use Rattle.state.specs.declared.State.{State}
 use Rattle.rows.specs.Rows.{withSlots}
-use Rattle.state.specs.State.{threadAt}
-use Rattle.ticks.specs.Running.{level, head}
-use Rattle.events.specs.Effects.{block, yield, wake, set, byKind, effect}
 use Rattle.state.specs.Updates.{withLists, withAccount, withServer, stateOf}
 
 module _ (s : State) where
@@ -29,13 +25,3 @@ module _ (s : State) where
       ≡ withLists k s
   lists-are l k w e f =
       λ x. stateOf (s .header) (s .now) (s .idle) (f x) (s .threads) (s .counts) (s .dues) (s .amounts) (e x)
-
-module _ (s : State) where
-  -- an event's effect, by its kind
-  pub effect-at : (e : Event) (k : ℕ) → e .kind ≡ k
-      → effect s e ≡ byKind k s (block (level s) (head s) (threadAt s (head s)) s) (yield (level s) (head s) (threadAt s (head s)) s) (wake (e .thread) (threadAt s (e .thread)) s)
-      (set (e .thread) (threadAt s (e .thread)) (e .parameters) s)
-  unfolding effect
-  effect-at e k z =
-      ap (λ (x : ℕ). byKind x s (block (level s) (head s) (threadAt s (head s)) s) (yield (level s) (head s) (threadAt s (head s)) s) (wake (e .thread) (threadAt s (e .thread)) s)
-      (set (e .thread) (threadAt s (e .thread)) (e .parameters) s)) z

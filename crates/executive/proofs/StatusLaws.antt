@@ -10,7 +10,7 @@ use mathlib.Core.List.{[], _∷_}
 use borrow.Author.Tests.{lt-ltb, le-ltb, ltb-false, leb-false, eqb-true, not-false}
 use Rattle.base.specs.Refusals.{firstRefusal}
 use Rattle.base.proofs.RefusalLaws.{passed, given-first, given-second, given-passed, status-at-most}
-use Rattle.executive.specs.Answer.{timeStatus, earlyStatus}
+use Rattle.executive.specs.Private.{timeStatus, earlyStatus}
 use Rattle.events.specs.Answers.{badKind, badThread, badParameters, fieldStatusOf, stateStatusOf}
 
 module _ (n : ℕ) (e : Event) where

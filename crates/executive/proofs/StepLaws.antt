@@ -29,8 +29,8 @@ use Rattle.events.specs.Effects.{effect}
 use Rattle.events.specs.Answers.{fieldStatus, stateStatusOf, stateStatus, executive}
 use Rattle.events.proofs.EventLaws.{effect-sound}
 use Rattle.events.proofs.DemandLaws.{field-passed}
-use Rattle.executive.specs.Answer.{returned, eventAnswer, answered, unread, timeStatus, earlyStatus}
-use Rattle.executive.specs.Steps.{soundStatus}
+use Rattle.executive.specs.Answer.{returned, eventAnswer}
+use Rattle.executive.specs.Private.{answered, unread, timeStatus, earlyStatus, soundStatus}
 use Rattle.executive.proofs.StatusLaws.{time-zero, early-small, state-small, early-zero, thread-small}
 use Rattle.executive.proofs.KeptLaws.{status-kept}
 

@@ -1,3 +1,3 @@
 -- What a reader of `executive` must believe, over the definitions of `events`.
 pub mod Answer
-pub mod Steps
+pub mod Private

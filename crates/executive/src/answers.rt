@@ -2,8 +2,7 @@
 ghost use mathlib.Core.Path.{_≡_};
 ghost use mathlib.Core.Bool.{true};
 ghost use Rattle.state.specs.Sound.{soundState};
-ghost use Rattle.executive.specs.Answer.{answered, unread, timeStatus, earlyStatus};
-ghost use Rattle.executive.specs.Steps.{soundStatus};
+ghost use Rattle.executive.specs.Private.{answered, unread, timeStatus, earlyStatus, soundStatus};
 use super::Answer;
 use super::parts;
 use records::Event;

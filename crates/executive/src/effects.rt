@@ -6,10 +6,11 @@ ghost use lib.ListN.{length};
 ghost use lib.Dec.{leb};
 ghost use Rattle.ready.specs.Word.{occupancy};
 ghost use Rattle.ready.specs.Rules.{Joinable, Leavable, Movable};
-ghost use Rattle.executive.specs.Steps.{changeOf, shifted};
 ghost use Rattle.state.specs.Updates.{withAccount};
+ghost use Rattle.events.specs.Effects.{becomes, changeOf, shifted};
 use super::parts;
 use account::Account;
+use events::Change;
 use records::Event;
 use state::State;
 use state::Thread;
@@ -31,15 +32,6 @@ pub(super) fn put(s0: State, i: usize, t: Thread, a: Account) -> State
     s
 }
 
-// What an event does to the thread that it concerns: the thread, its account, and the lists that it leaves and joins, 0 for
-// none.
-pub struct Change {
-    pub thread: Thread,
-    pub account: Account,
-    pub from: u8,
-    pub to: u8,
-}
-
 // The thread that an event concerns: the running one, or the one that it names.
 pub(super) fn concerned(kind: u8, thread: u8, head: u8) -> u8
     ensures { λ r. ⌜ r ≡ cond (leb kind 2) head thread ⌝ }
@@ -50,54 +42,43 @@ pub(super) fn concerned(kind: u8, thread: u8, head: u8) -> u8
     thread
 }
 
-// The list of a thread with new parameters.
-fn new_place(blocked: bool, p: u8) -> u8
-    ensures { λ r. ⌜ r ≡ cond blocked 0 p ⌝ }
+// The change of a thread t with account a to u with account b.
+fn change_to(t: Thread, a: Account, u: Thread, b: Account) -> Change
+    ensures { λ r. ⌜ r ≡ becomes t a u b ⌝ }
 {
-    if blocked {
-        return 0;
+    let v = b.server;
+    let then = state::with_server(u, v);
+    Change {
+        thread: u,
+        account: b,
+        from: state::assigned_place(t, a.pending.count),
+        to: state::assigned_place(then, b.pending.count),
     }
-    p
 }
 
 // What an event does at its time to the thread that it concerns.
 pub(super) fn change_of(e: Event, t: Thread, a: Account) -> Change
     requires { ⌜ (0 < e .kind) × (e .kind ≡ 1 → 1 < t .parameters .policy → (a .server .activation + t .parameters .period < 2 ^ 64) × (0 < a .server .used → a .pending .count < 8)) ⌝ }
-    ensures { λ r. ⌜ r ≡ changeOf e t a ⌝ }
+    ensures { λ r. ⌜ r ≡ changeOf (e .kind) (e .time) (e .parameters) t a ⌝ }
 {
-    let here = state::assigned_place(t, a.pending.count);
     if e.kind == 1 {
-        return Change {
-            thread: parts::with_blocked(1, t),
-            account: parts::after_block(e.time, t, a),
-            from: here,
-            to: 0,
-        };
+        let u = parts::with_blocked(1, t);
+        let b = parts::after_block(e.time, t, a);
+        return change_to(t, a, u, b);
     }
     if e.kind == 2 {
-        return Change {
-            thread: parts::full_quantum(t),
-            account: a,
-            from: here,
-            to: here,
-        };
+        let u = parts::full_quantum(t);
+        return change_to(t, a, u, a);
     }
     if e.kind == 3 {
         let u = parts::with_blocked(0, parts::full_quantum(t));
-        return Change {
-            thread: u,
-            account: parts::after_wake(e.time, t, a),
-            from: 0,
-            to: state::assigned_place(u, a.pending.count),
-        };
+        let b = parts::after_wake(e.time, t, a);
+        return change_to(t, a, u, b);
     }
     let p = e.parameters;
-    Change {
-        thread: parts::renew(p, t),
-        account: parts::new_account(e.time, p),
-        from: here,
-        to: new_place(0 < t.blocked, p.priority),
-    }
+    let u = parts::renew(p, t);
+    let b = parts::new_account(e.time, p);
+    change_to(t, a, u, b)
 }
 
 // Thread k leaves list `from` and becomes the tail of list `to`, 0 for none; the answer is the word of the lists as they

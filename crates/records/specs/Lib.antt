@@ -1,2 +1,3 @@
 -- What a reader of `records` must believe.
 pub mod Ranges
+pub mod Kinds

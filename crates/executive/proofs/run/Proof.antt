@@ -21,10 +21,9 @@ use Rattle.moments.proofs.AdvanceLaws.{Turn, is-next, rest-fits, rest-idle, las
 use Rattle.moments.proofs.AnswerLaws.{head-below, running-held, next-requires}
 use Rattle.state.specs.Updates.{stateOf}
 use Rattle.executive.proofs.AnswerLaws.{answered-is}
-use Rattle.executive.proofs.StateLaws.{effect-at}
 use Rattle.executive.proofs.RequiresLaws.{dues-length, amounts-length}
 use Rattle.executive.proofs.StepLaws.{Open, Stage, unsound-is, arrives, at-time, still-due, turn-falls, turn-ends, starts, carries, finishes}
-use Rattle.executive.proofs.DoneLaws.{Concerns, who-is, change-small, change-requires, change-is}
+use Rattle.executive.proofs.DoneLaws.{Concerns, effect-none, who-is, change-small, change-requires, change-is}
 use Rattle.executive.proofs.DoneLaws as laws
 use Rattle.executive.proofs.run.Statement.{statement}
 use Rattle.executive.proofs.run.Tie as tie
@@ -193,7 +192,7 @@ loop-less-2 c = turn-ends _ _ (c .before .before .before .before .before .before
 loop-again-2 : tie.Need-loop-again-2 Inv-loop μ-loop
 loop-again-2 c =
     let b = c .before .before in
-    finishes _ (eventOf (still b)) _ (stateHere (still b)) (accepted b) (to-come (still b)) (atTime b) (has-passed b) (atTime b) (sym (effect-at (atTime b) (eventOf (still b)) 0 (c .if4 .taken)))
+    finishes _ (eventOf (still b)) _ (stateHere (still b)) (accepted b) (to-come (still b)) (atTime b) (has-passed b) (atTime b) (effect-none (atTime b) (eventOf (still b)) (c .if4 .taken))
 
 concerned-requires : tie.Need-concerned-requires Inv-loop μ-loop
 concerned-requires c κs = tt
@@ -218,9 +217,8 @@ concerns c =
       sound = o .sound;
       fields = o .fields;
       allows = o .allows;
-      timed = refl;
       some = l;
-      who = who-is (atTime b) (o .sound) e (o .fields) (o .allows) refl _ _ (c .before .before .before .before .before .before .before .before .before .before .before .before .before .before .before .before .before .before .before .highest .ensures) (c .before .before .before .before .before .before .before .before .before .before .before .before .before .before .before .before .head-at .ensures) _ (c .before .concerned .ensures) l;
+      who = who-is (atTime b) e (o .sound) (o .fields) (o .allows) l _ _ (c .before .before .before .before .before .before .before .before .before .before .before .before .before .before .before .before .before .before .before .highest .ensures) (c .before .before .before .before .before .before .before .before .before .before .before .before .before .before .before .before .head-at .ensures) _ (c .before .concerned .ensures);
       there = c .wide2 .ensures;
     }
 

@@ -1,0 +1,33 @@
+-- What only private functions promise: the statuses of an event in the order in which the code judges them, and the two forms of an answer.
+use Prim.Native.Nat.{ℕ, _+_}
+use mathlib.Core.Bool.{Bool}
+use mathlib.Core.List.{[], _∷_}
+use lib.Dec.{ltb, eqb}
+use Rattle.records.specs.declared.Event.{Event}
+use Rattle.records.specs.Ranges.{lastTime, longestStep}
+use Rattle.ready.specs.Word.{highestOf}
+use Rattle.base.specs.Refusals.{firstRefusal, given}
+use Rattle.state.specs.declared.State.{State}
+use Rattle.ticks.specs.Running.{running, next}
+use Rattle.events.specs.Answers.{fieldStatusOf, stateStatusOf}
+use Rattle.executive.specs.declared.Answer.{Answer}
+
+-- 01 Status 19: the answer that leaves a sound state, with who runs there and its next moment
+abbrev pub answered : ℕ → State → Answer
+answered status s = record { status = status; running = running s; next = next s; state = s }
+
+-- 01 Status 19 and 20: the answer that names no running thread and no next moment: for 9, and of a refused opening
+abbrev pub unread : ℕ → State → Answer
+unread status s = record { status = status; running = 255; next = 0; state = s }
+
+-- 01 Status 2 to 4 and 15: by the time, 3, 1 or 2
+unfoldable pub timeStatus : ℕ → ℕ → ℕ
+timeStatus now time = firstRefusal ((ltb lastTime time, 3) ∷ (ltb time now, 1) ∷ (ltb (now + longestStep) time, 2) ∷ [])
+
+-- 01 Status 15: what is judged without the state: 4, 5 or 6 by the fields, then by the time
+abbrev pub earlyStatus : ℕ → ℕ → Event → ℕ
+earlyStatus n now e = firstRefusal (given (fieldStatusOf n e) ∷ given (timeStatus now (e .time)) ∷ [])
+
+-- 01 Status 15: the status of an event for a sound state; `blocked`: whether the thread it names is
+abbrev pub soundStatus : ℕ → ℕ → ℕ → Bool → Event → ℕ
+soundStatus n now word blocked e = firstRefusal (given (earlyStatus n now e) ∷ given (stateStatusOf (e .kind) (eqb (highestOf word) 0) blocked) ∷ [])
