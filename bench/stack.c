@@ -43,7 +43,7 @@ static struct listed listed;
 static void *call(void *which) {
     switch ((int)(intptr_t)which) {
     case EVENT: at_thawonlai_event(&state, event); break;
-    case OPEN: opened = at_thawonlai_open(start, n, table); break;
+    case OPEN: opened = at_thawonlai_open((struct header){ .n = n, .start = start }, table); break;
     case SOUND: at_thawonlai_sound(state); break;
     case READ: found = at_thawonlai_read(file, length); break;
     case COPY: at_thawonlai_copy(file, length, out, LONGEST); break;

@@ -41,7 +41,7 @@ static int same(const struct state *a, const struct state *b) {
 }
 
 int main(void) {
-    struct answer opened = thawonlai_open(7, IN_USE, a_table());
+    struct answer opened = thawonlai_open((struct header){ .n = IN_USE, .start = 7 }, a_table());
     if (opened.status != 0) {
         printf("tests/blocked: opening is refused with %d\n", opened.status);
         return 1;

@@ -32,7 +32,7 @@ struct made { uint8_t status; size_t line, total; };
 struct checked { uint8_t verdict, status; size_t line; };
 
 struct reply thawonlai_event(struct state *state, struct event e);
-struct answer thawonlai_open(uint64_t start, uint32_t n, struct table table);
+struct answer thawonlai_open(struct header header, struct table table);
 uint8_t thawonlai_sound(struct state s);
 struct found thawonlai_read(const uint8_t *file, size_t length);
 struct written thawonlai_write(struct header header, struct table table, struct events events, size_t count, uint8_t *out, size_t room);

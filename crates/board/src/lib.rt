@@ -9,6 +9,7 @@ ghost use Rattle.executive.specs.Answer.{eventAnswer, openAnswer};
 ghost use Rattle.board.specs.Board.{replyOf, doneOf};
 use executive::Answer;
 use records::Event;
+use records::Header;
 use records::Parameters;
 use state::State;
 
@@ -59,13 +60,13 @@ pub extern "C" fn thawonlai_event(state: &mut State, e: Event) -> Reply
     d.reply
 }
 
-// Opens a state: the first n threads of the table, at the start time.
+// Opens a state: the first N threads of the table, at the start time.
 #[no_mangle]
-pub extern "C" fn thawonlai_open(start: u64, n: u32, table: Table) -> Answer
-    ensures { λ r. ⌜ r ≡ openAnswer start n (table .threads) ⌝ }
+pub extern "C" fn thawonlai_open(header: Header, table: Table) -> Answer
+    ensures { λ r. ⌜ r ≡ openAnswer header (table .threads) ⌝ }
 {
     let threads = table.threads;
-    executive::open(start, n, threads)
+    executive::open(header, threads)
 }
 
 // 1 where a state is sound, else 0.

@@ -32,15 +32,14 @@ use Rattle.moments.proofs.ChangeLaws.{withBound, totals-set, changed-at}
 use Rattle.moments.proofs.FireLaws.{bounds-same}
 use Rattle.events.specs.Effects.{renewed, newAccount}
 use Rattle.events.specs.Answers.{executive}
-use Rattle.events.specs.Opening.{emptyState, withoutFlag, entered, enteredBelow, openStatus, opening}
+use Rattle.events.specs.Opening.{emptyState, noState, withoutFlag, entered, enteredBelow, openStatus, opening}
 use Rattle.events.proofs.EffectLaws.{Fits, set-fits}
 use Rattle.events.proofs.EventLaws.{and-both}
-use Rattle.state.specs.Updates.{withLists, withAccount, withBlocked, withServer, stateOf}
+use Rattle.state.specs.Updates.{withHeader, withLists, withAccount, withBlocked, withServer}
 
 -- the same state with another number of threads
 abbrev withN : ℕ → State → State
-withN k s =
-    stateOf (record { n = k; start = s .header .start }) (s .now) (s .idle) (s .word) (s .threads) (s .counts) (s .dues) (s .amounts) (s .lists)
+withN k s = withHeader (record { n = k; start = s .header .start }) s
 
 -- what a state meets once k threads have entered
 pub record Entered (k : ℕ) (s : State) : Type 0 where
@@ -153,30 +152,30 @@ empty-row i l =
     zeros-eq (slotsAt i (replicate 256 0)) (zeros-take 8 (drop (i * 8) (replicate 256 0)) (zeros-drop (i * 8) (replicate 256 0) (zeros-replicate 256)))
     ∙ ap (λ (n : ℕ). replicate n 0) (row-length i (replicate 256 0) l refl)
 
-module _ (n start : ℕ) (top : start ≤ 1000000000000000) where
-  no-thread : (i : ℕ) → i < 32 → threadAt (emptyState n start) i ≡ noThread
+module _ (header : Header) (top : header .start ≤ 1000000000000000) where
+  no-thread : (i : ℕ) → i < 32 → threadAt (emptyState header) i ≡ noThread
   no-thread i l = getD-replicate 32 i noThread noThread l
 
-  no-pending : (i : ℕ) → i < 32 → pendingAt (emptyState n start) i ≡ noPending
+  no-pending : (i : ℕ) → i < 32 → pendingAt (emptyState header) i ≡ noPending
   no-pending i l =
       λ x. record { count = getD-replicate 32 i 0 0 l x; dues = empty-row i l x; amounts = empty-row i l x }
 
-  empty-entered : Entered 0 (emptyState n start)
+  empty-entered : Entered 0 (emptyState header)
   empty-entered =
       record {
         sizes = omega tests;
         each = λ i l. absent (le-ltb i 0 (omega arith)) (no-thread i l) (no-pending i l);
-        lists = sound-same (λ i. 0) (place (emptyState n start)) 0 (replicate 1056 0) (λ i l. ap (λ (t : Thread). placeOf t (getD (replicate 32 0) i 0)) (no-thread i l)) empty-sound;
+        lists = sound-same (λ i. 0) (place (emptyState header)) 0 (replicate 1056 0) (λ i l. ap (λ (t : Thread). placeOf t (getD (replicate 32 0) i 0)) (no-thread i l)) empty-sound;
         timed = omega arith;
       }
 
   pub below-entered : (table : List Parameters) (k : ℕ) → k ≤ 32 → ((i : ℕ) → i < k → inRange 8 (getD table i noParameters) ≡ true)
-      → Entered k (enteredBelow k table (emptyState n start))
+      → Entered k (enteredBelow k table (emptyState header))
   unfolding enteredBelow
   below-entered table zero l r = empty-entered
   below-entered table (suc k) l r =
-      entered-of (suc k) (entered k (getD table k noParameters) (enteredBelow k table (emptyState n start)))
-      (entered-sound k (enteredBelow k table (emptyState n start)) (below-entered table k (omega arith) (λ i m. r i (omega arith))) (omega arith) (getD table k noParameters) (r k (omega arith)))
+      entered-of (suc k) (entered k (getD table k noParameters) (enteredBelow k table (emptyState header)))
+      (entered-sound k (enteredBelow k table (emptyState header)) (below-entered table k (omega arith) (λ i m. r i (omega arith))) (omega arith) (getD table k noParameters) (r k (omega arith)))
 
 -- N stays what the opening was given
 header-entered : (table : List Parameters) (k : ℕ) (s : State) → enteredBelow k table s .header ≡ s .header
@@ -184,47 +183,37 @@ unfolding enteredBelow
 header-entered table zero s = refl
 header-entered table (suc k) s = header-entered table k s
 
-pub opened-sound : (start n : ℕ) (table : List Parameters) → openStatus start n table ≡ 0 → Sound (enteredBelow n table (emptyState n start))
+pub opened-sound : (header : Header) (table : List Parameters) → openStatus header table ≡ 0 → Sound (enteredBelow (header .n) table (emptyState header))
 unfolding openStatus
-opened-sound start n table z =
+opened-sound header table z =
+    let n = header .n in
     let a = passed _ 4 _ z in
     let b = passed _ 2 _ (a .1) in
     let c = passed _ 5 _ (b .1) in
     let r = and-both (leb 1 n) (leb n 32) (not-false _ (a .0)) in
-    let t = ltb-false 1000000000000000 start (b .0) in
+    let t = ltb-false 1000000000000000 (header .start) (b .0) in
     let v = not-false _ (c .0) in
-    let s = enteredBelow n table (emptyState n start) in
-    let e = below-entered n start t table n (leb-true n 32 (r .1))
+    let s = enteredBelow n table (emptyState header) in
+    let e = below-entered header t table n (leb-true n 32 (r .1))
     (λ i m. and-both (inRange 8 (getD table i noParameters)) (leb (getD table i noParameters .flag) 1)
     (below-at n (λ i. inRange 8 (getD table i noParameters) && leb (getD table i noParameters .flag) 1) v i m) .0) in
-    of-header s (header-entered table n (emptyState n start)) (sound-of n s (leb-true 1 n (r .0)) (leb-true n 32 (r .1)) e)
-  where
-    made : ℕ → Header
-    made x = record { n = n; start = x }
-
-    of-header : (s : State) → s .header ≡ record { n = n; start = start } → Sound (withN n s) → Sound s
-    of-header s q h = subst Sound same h
-      where
-        head : made (s .header .start) ≡ s .header
-        head = ap (λ (x : Header). made (x .start)) q ∙ sym q
-
-        same : withN n s ≡ s
-        same =
-            λ x. stateOf (head x) (s .now) (s .idle) (s .word) (s .threads) (s .counts) (s .dues) (s .amounts) (s .lists)
+    subst Sound
+    (ap (λ (x : Header). withHeader (record { n = x .n; start = s .header .start }) s) (sym (header-entered table n (emptyState header))))
+    (sound-of n s (leb-true 1 n (r .0)) (leb-true n 32 (r .1)) e)
 
 -- an accepted opening is sound
-pub opening-sound : (start n : ℕ) (table : List Parameters) → opening start n table .status ≡ 0 → soundState (opening start n table .state) ≡ true
+pub opening-sound : (header : Header) (table : List Parameters) → opening header table .status ≡ 0 → soundState (opening header table .state) ≡ true
 unfolding opening
-opening-sound start n table z = go (ℕ-discrete (openStatus start n table) 0)
+opening-sound header table z = go (ℕ-discrete (openStatus header table) 0)
   where
     opened : Answer State
-    opened = accepted executive (enteredBelow n table (emptyState n start))
+    opened = accepted executive (enteredBelow (header .n) table (emptyState header))
 
     closed : Answer State
-    closed = record { status = openStatus start n table; running = 255; next = 0; state = emptyState 0 0 }
+    closed = record { status = openStatus header table; running = 255; next = 0; state = noState }
 
-    go : Dec (openStatus start n table ≡ 0) → soundState (cond (eqb (openStatus start n table) 0) opened closed .state) ≡ true
+    go : Dec (openStatus header table ≡ 0) → soundState (cond (eqb (openStatus header table) 0) opened closed .state) ≡ true
     go (yes e) =
-        subst⁻¹ (λ (a : Answer State). soundState (a .state) ≡ true) (cond-true (eqb (openStatus start n table) 0) opened closed (eq-eqb (openStatus start n table) 0 e))
-        (state-in (enteredBelow n table (emptyState n start)) (opened-sound start n table e))
-    go (no e) = absurd (e (sym (ap (λ (a : Answer State). a .status) (cond-false (eqb (openStatus start n table) 0) opened closed (ne-eqb (openStatus start n table) 0 e))) ∙ z))
+        subst⁻¹ (λ (a : Answer State). soundState (a .state) ≡ true) (cond-true (eqb (openStatus header table) 0) opened closed (eq-eqb (openStatus header table) 0 e))
+        (state-in (enteredBelow (header .n) table (emptyState header)) (opened-sound header table e))
+    go (no e) = absurd (e (sym (ap (λ (a : Answer State). a .status) (cond-false (eqb (openStatus header table) 0) opened closed (ne-eqb (openStatus header table) 0 e))) ∙ z))

@@ -5,6 +5,7 @@ use mathlib.Core.Path.{_≡_}
 use mathlib.Core.List.{List, []}
 use lib.ListN.{length}
 use Rattle.records.specs.declared.Parameters.{Parameters}
+use Rattle.records.specs.declared.Header.{Header}
 use Rattle.records.specs.declared.Event.{Event}
 use Rattle.records.specs.Ranges.{lastTime}
 use Rattle.ready.specs.Lists.{threads, headOf}
@@ -28,7 +29,7 @@ AcceptedIsSound = (s : State) (e : Event) → status executive s e ≡ 0 → sou
 
 -- an accepted opening gives one
 abbrev pub OpeningIsSound : Type 0
-OpeningIsSound = (start n : ℕ) (table : List Parameters) → opening start n table .status ≡ 0 → soundState (opening start n table .state) ≡ true
+OpeningIsSound = (header : Header) (table : List Parameters) → opening header table .status ≡ 0 → soundState (opening header table .state) ≡ true
 
 -- 01 State 18: the running thread heads the highest list that has one, and nothing runs where no list has one
 pub record HeadOfHighest (s : State) : Type 0 where

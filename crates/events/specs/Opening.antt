@@ -5,6 +5,7 @@ use mathlib.Core.List.{List, [], _∷_}
 use lib.ListN.{getD, replicate}
 use lib.Dec.{ltb, leb, eqb}
 use Rattle.records.specs.declared.Parameters.{Parameters}
+use Rattle.records.specs.declared.Header.{Header}
 use Rattle.base.specs.Tests.{below}
 use Rattle.records.specs.Ranges.{mostThreads, mostReplenishments, lastTime, inRange, noParameters}
 use Rattle.ready.specs.Lists.{appended}
@@ -16,10 +17,14 @@ use Rattle.events.specs.Effects.{renewed, newAccount}
 use Rattle.events.specs.Answers.{executive}
 use Rattle.state.specs.Updates.{withLists, withAccount, withBlocked, stateOf}
 
--- 01 Status 20: a state of so many threads, none of them there yet, at the start time
-abbrev pub emptyState : ℕ → ℕ → State
-emptyState n start =
-    stateOf (record { n = n; start = start }) start 0 0 (replicate 32 noThread) (replicate 32 0) (replicate 256 0) (replicate 256 0) (replicate 1056 0)
+-- a state of so many threads, none of them there yet, at the start time
+abbrev pub emptyState : Header → State
+emptyState header =
+    stateOf header (header .start) 0 0 (replicate 32 noThread) (replicate 32 0) (replicate 256 0) (replicate 256 0) (replicate 1056 0)
+
+-- 01 Status 20: a state of no threads and zeros
+abbrev pub noState : State
+noState = emptyState (record { n = 0; start = 0 })
 
 -- the parameters as a state keeps them: the start flag is spent
 abbrev pub withoutFlag : Parameters → Parameters
@@ -37,17 +42,17 @@ enteredBelow zero table s = s
 enteredBelow (suc n) table s = entered n (getD table n noParameters) (enteredBelow n table s)
 
 -- 01 Status 6, 4 and 7 at opening, in the order of 01 Status 16: 5, 3, 6
-unfoldable pub openStatus : ℕ → ℕ → List Parameters → ℕ
-openStatus start n table =
+unfoldable pub openStatus : Header → List Parameters → ℕ
+openStatus header table =
     firstRefusal
-    ((not (leb 1 n && leb n mostThreads), 5)
-    ∷ (ltb lastTime start, 3)
-    ∷ (not (below n (λ i. inRange mostReplenishments (getD table i noParameters) && leb (getD table i noParameters .flag) 1)), 6)
+    ((not (leb 1 (header .n) && leb (header .n) mostThreads), 5)
+    ∷ (ltb lastTime (header .start), 3)
+    ∷ (not (below (header .n) (λ i. inRange mostReplenishments (getD table i noParameters) && leb (getD table i noParameters .flag) 1)), 6)
     ∷ [])
 
 -- 01 Events 7, 01 Status 20: the answer to an opening
-unfoldable pub opening : ℕ → ℕ → List Parameters → Answer State
-opening start n table =
-    let opened = accepted executive (enteredBelow n table (emptyState n start)) in
-    cond (eqb (openStatus start n table) 0) opened
-    (record { status = openStatus start n table; running = 255; next = 0; state = emptyState 0 0 })
+unfoldable pub opening : Header → List Parameters → Answer State
+opening header table =
+    let opened = accepted executive (enteredBelow (header .n) table (emptyState header)) in
+    cond (eqb (openStatus header table) 0) opened
+    (record { status = openStatus header table; running = 255; next = 0; state = noState })

@@ -76,7 +76,7 @@ pub record Entry : Type 0 where
 
 abbrev pub given : Entry → List Shown
 given x =
-    let all = map shown (answers executive (opening 0 (length (x .table)) (x .table) .state) (x .events)) in
+    let all = map shown (answers executive (opening (record { n = length (x .table); start = 0 }) (x .table) .state) (x .events)) in
     drop (length all - length (x .last)) all
 
 -- every entry is answered as it says

@@ -9,6 +9,7 @@ use native.Mathlib.Omega.{arith}
 use native.Mathlib.Numerals.{add-one}
 use borrow.Author.Tests.{not-false, eq-eqb, ne-eqb, lt-ltb, le-ltb, le-leb, lt-leb, leb-true, ltb-false}
 use Rattle.records.specs.declared.Parameters.{Parameters}
+use Rattle.records.specs.declared.Header.{Header}
 use Rattle.base.specs.Tests.{below}
 use Rattle.records.specs.Ranges.{inRange, noParameters}
 use Rattle.base.proofs.TestLaws.{tests, all-true, all-one, below-at, cond-true, cond-false}
@@ -23,7 +24,7 @@ use Rattle.state.specs.declared.Thread.{Thread}
 use Rattle.state.specs.declared.State.{State}
 use Rattle.state.specs.State.{noThread, threadAt, place}
 use Rattle.events.specs.Effects.{renewed, newAccount}
-use Rattle.events.specs.Opening.{emptyState, withoutFlag, entered, enteredBelow, openStatus, opening}
+use Rattle.events.specs.Opening.{emptyState, noState, withoutFlag, entered, enteredBelow, openStatus, opening}
 use Rattle.events.proofs.EventLaws.{and-both}
 use Rattle.events.proofs.OpeningLaws.{Entered, unplaced, below-entered, opened-sound}
 use Rattle.executive.proofs.StateLaws.{lists-are}
@@ -36,11 +37,11 @@ use Rattle.executive.specs.Answer.{returned, openAnswer}
 use Rattle.executive.specs.Private.{answered, unread}
 use Rattle.state.specs.Updates.{withLists, withAccount, withBlocked, stateOf}
 
-pub empty-is : (n start : ℕ) (l : List ℕ) → l ≡ replicate 1056 0
-    → (stateOf (record { n = n; start = start }) start 0 0 (replicate 32 noThread) (replicate 32 0) (replicate 256 0) (replicate 256 0) l)
-    ≡ emptyState n start
-empty-is n start l e =
-    λ x. stateOf (record { n = n; start = start }) start 0 0 (replicate 32 noThread) (replicate 32 0) (replicate 256 0) (replicate 256 0) (e x)
+pub empty-is : (header : Header) (l : List ℕ) → l ≡ replicate 1056 0
+    → (stateOf header (header .start) 0 0 (replicate 32 noThread) (replicate 32 0) (replicate 256 0) (replicate 256 0) l)
+    ≡ emptyState header
+empty-is header l e =
+    λ x. stateOf header (header .start) 0 0 (replicate 32 noThread) (replicate 32 0) (replicate 256 0) (replicate 256 0) (e x)
 
 -- ---- the tests
 
@@ -62,24 +63,24 @@ module _ (f : ℕ → Bool) (i j : ℕ) (e : i ≡ suc j) where
 abbrev pub opens : List Parameters → ℕ → Bool
 opens table i = inRange 8 (getD table i noParameters) && leb (getD table i noParameters .flag) 1
 
-module _ (start n : ℕ) (table : List Parameters) where
-  pub status-none : n < 1 → openStatus start n table ≡ 5
+module _ (header : Header) (table : List Parameters) where
+  pub status-none : (header .n) < 1 → openStatus header table ≡ 5
   unfolding openStatus firstRefusal
-  status-none a = simp (lt-leb 1 n a)
+  status-none a = simp (lt-leb 1 (header .n) a)
 
-  pub status-many : 32 < n → openStatus start n table ≡ 5
+  pub status-many : 32 < (header .n) → openStatus header table ≡ 5
   unfolding openStatus firstRefusal
-  status-many a = simp (le-leb 1 n (omega arith), lt-leb n 32 a)
+  status-many a = simp (le-leb 1 (header .n) (omega arith), lt-leb (header .n) 32 a)
 
-  module _ (a : 1 ≤ n) (b : n ≤ 32) where
-    pub status-late : 1000000000000000 < start → openStatus start n table ≡ 3
+  module _ (a : 1 ≤ (header .n)) (b : (header .n) ≤ 32) where
+    pub status-late : 1000000000000000 < (header .start) → openStatus header table ≡ 3
     unfolding openStatus firstRefusal
-    status-late c = simp (le-leb 1 n a, le-leb n 32 b, lt-ltb 1000000000000000 start c)
+    status-late c = simp (le-leb 1 (header .n) a, le-leb (header .n) 32 b, lt-ltb 1000000000000000 (header .start) c)
 
-    pub status-table : start ≤ 1000000000000000 → (t : Bool) → below n (opens table) ≡ t → openStatus start n table ≡ cond t 0 6
+    pub status-table : (header .start) ≤ 1000000000000000 → (t : Bool) → below (header .n) (opens table) ≡ t → openStatus header table ≡ cond t 0 6
     unfolding openStatus firstRefusal
-    status-table c true d = simp (le-leb 1 n a, le-leb n 32 b, le-ltb 1000000000000000 start c, d)
-    status-table c false d = simp (le-leb 1 n a, le-leb n 32 b, le-ltb 1000000000000000 start c, d)
+    status-table c true d = simp (le-leb 1 (header .n) a, le-leb (header .n) 32 b, le-ltb 1000000000000000 (header .start) c, d)
+    status-table c false d = simp (le-leb 1 (header .n) a, le-leb (header .n) 32 b, le-ltb 1000000000000000 (header .start) c, d)
 
 -- ---- a thread enters
 
@@ -121,29 +122,29 @@ priority-range : (p : Parameters) → inRange 8 p ≡ true → (1 ≤ p .priorit
 unfolding inRange
 priority-range p e = let a = all-true _ e in (leb-true 1 (p .priority) (a .0), leb-true (p .priority) 32 (a .1 .0))
 
-module _ (start n : ℕ) (table : List Parameters) (z : openStatus start n table ≡ 0) where
-  accepted : (n ≤ 32) × (start ≤ 1000000000000000) × (below n (opens table) ≡ true)
+module _ (header : Header) (table : List Parameters) (z : openStatus header table ≡ 0) where
+  accepted : ((header .n) ≤ 32) × ((header .start) ≤ 1000000000000000) × (below (header .n) (opens table) ≡ true)
   unfolding openStatus
   accepted =
       let a = passed _ 4 _ z in
       let b = passed _ 2 _ (a .1) in
       let c = passed _ 5 _ (b .1) in (
-        leb-true n 32 (and-both (leb 1 n) (leb n 32) (not-false _ (a .0)) .1),
-        ltb-false 1000000000000000 start (b .0),
+        leb-true (header .n) 32 (and-both (leb 1 (header .n)) (leb (header .n) 32) (not-false _ (a .0)) .1),
+        ltb-false 1000000000000000 (header .start) (b .0),
         not-false _ (c .0),
       )
 
-  pub few : n ≤ 32
+  pub few : (header .n) ≤ 32
   few = accepted .0
 
-  in-range : (i : ℕ) → i < n → inRange 8 (getD table i noParameters) ≡ true
-  in-range i l = and-both (inRange 8 (getD table i noParameters)) (leb (getD table i noParameters .flag) 1) (below-at n (opens table) (accepted .2) i l) .0
+  in-range : (i : ℕ) → i < (header .n) → inRange 8 (getD table i noParameters) ≡ true
+  in-range i l = and-both (inRange 8 (getD table i noParameters)) (leb (getD table i noParameters .flag) 1) (below-at (header .n) (opens table) (accepted .2) i l) .0
 
   -- once k threads have entered, the next one can
-  pub next-enters : (k : ℕ) → k < n → (s : State) → s ≡ enteredBelow k table (emptyState n start)
+  pub next-enters : (k : ℕ) → k < (header .n) → (s : State) → s ≡ enteredBelow k table (emptyState header)
       → (k < 32) × (length (s .dues) ≡ 256) × (length (s .amounts) ≡ 256) × (s .word ≡ occupancy (s .lists))
       × (eqb (getD table k noParameters .flag) 0 ≡ false → Joinable (s .word) (getD table k noParameters .priority) (s .lists))
-  next-enters k l s e = go (subst⁻¹ (Entered k) e (below-entered n start (accepted .1) table k (omega (arith, few)) (λ i m. in-range i (omega arith))))
+  next-enters k l s e = go (subst⁻¹ (Entered k) e (below-entered header (accepted .1) table k (omega (arith, few)) (λ i m. in-range i (omega arith))))
     where
       p : Parameters
       p = getD table k noParameters
@@ -166,25 +167,25 @@ module _ (start n : ℕ) (table : List Parameters) (z : openStatus start n table
 
 -- ---- the answer of an opening
 
-module _ (start n : ℕ) (table : List Parameters) (k : ℕ) (z : k ≡ openStatus start n table) where
+module _ (header : Header) (table : List Parameters) (k : ℕ) (z : k ≡ openStatus header table) where
   opened : sequence.Answer State
-  opened = sequence.accepted executive (enteredBelow n table (emptyState n start))
+  opened = sequence.accepted executive (enteredBelow (header .n) table (emptyState header))
 
   closed : sequence.Answer State
-  closed = record { status = openStatus start n table; running = 255; next = 0; state = emptyState 0 0 }
+  closed = record { status = openStatus header table; running = 255; next = 0; state = noState }
 
-  pub closed-is : (k ≡ 0 → ⊥) → (s : State) → s ≡ emptyState 0 0 → unread k s ≡ openAnswer start n table
+  pub closed-is : (k ≡ 0 → ⊥) → (s : State) → s ≡ noState → unread k s ≡ openAnswer header table
   unfolding opening opened closed
   closed-is d s e =
       ap₂ unread z e
-      ∙ ap returned (sym (cond-false (eqb (openStatus start n table) 0) opened closed (ne-eqb (openStatus start n table) 0 (λ q. d (z ∙ q)))))
+      ∙ ap returned (sym (cond-false (eqb (openStatus header table) 0) opened closed (ne-eqb (openStatus header table) 0 (λ q. d (z ∙ q)))))
 
-  module _ (y : k ≡ 0) (s : State) (e : s ≡ enteredBelow n table (emptyState n start)) where
+  module _ (y : k ≡ 0) (s : State) (e : s ≡ enteredBelow (header .n) table (emptyState header)) where
     pub opened-state : soundState s ≡ true
-    opened-state = subst⁻¹ (λ (x : State). soundState x ≡ true) e (state-in (enteredBelow n table (emptyState n start)) (opened-sound start n table (sym z ∙ y)))
+    opened-state = subst⁻¹ (λ (x : State). soundState x ≡ true) e (state-in (enteredBelow (header .n) table (emptyState header)) (opened-sound header table (sym z ∙ y)))
 
-    pub opened-is : answered 0 s ≡ openAnswer start n table
+    pub opened-is : answered 0 s ≡ openAnswer header table
     unfolding opening opened closed
     opened-is =
         ap (answered 0) e
-        ∙ ap returned (sym (cond-true (eqb (openStatus start n table) 0) opened closed (eq-eqb (openStatus start n table) 0 (sym z ∙ y))))
+        ∙ ap returned (sym (cond-true (eqb (openStatus header table) 0) opened closed (eq-eqb (openStatus header table) 0 (sym z ∙ y))))

@@ -1,7 +1,7 @@
 -- The answers of the code are those of the definitions.
-use Prim.Native.Nat.{ℕ}
 use mathlib.Core.List.{List}
 use Rattle.records.specs.declared.Parameters.{Parameters}
+use Rattle.records.specs.declared.Header.{Header}
 use Rattle.records.specs.declared.Event.{Event}
 use Rattle.passing.specs.Sequence.{answer}
 use Rattle.passing.specs.Sequence as sequence
@@ -19,5 +19,5 @@ abbrev pub eventAnswer : State → Event → Answer
 eventAnswer s e = returned (answer executive s e)
 
 -- 01 Events 7: the answer to an opening
-abbrev pub openAnswer : ℕ → ℕ → List Parameters → Answer
-openAnswer start n table = returned (opening start n table)
+abbrev pub openAnswer : Header → List Parameters → Answer
+openAnswer header table = returned (opening header table)

@@ -26,16 +26,16 @@ pub struct Answer {
     pub state: State,
 }
 
-// Opens a state: the first n threads of the table, at the start time. Any values may be handed in.
-pub fn open(start: u64, n: u32, table: [Parameters; 32]) -> Answer
-    ensures { λ r. ⌜ r ≡ openAnswer start n table ⌝ }
+// Opens a state: the first N threads of the table, at the start time. Any values may be handed in.
+pub fn open(header: Header, table: [Parameters; 32]) -> Answer
+    ensures { λ r. ⌜ r ≡ openAnswer header table ⌝ }
 {
-    let status = opening::open_status(start, n, table);
+    let status = opening::open_status(header, table);
     if status != 0 {
-        let none = opening::empty_state(0, 0);
+        let none = opening::empty_state(Header { n: 0, start: 0 });
         return answers::nothing_runs(status, none);
     }
-    let s = opening::opened(start, n, table);
+    let s = opening::opened(header, table);
     answers::answer_of(0, s)
 }
 

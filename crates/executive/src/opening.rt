@@ -17,9 +17,9 @@ use sporadic::Server;
 use state::State;
 use state::Thread;
 
-// A state of n threads in which none of them is there yet.
-pub(super) fn empty_state(n: u32, start: u64) -> State
-    ensures { λ r. ⌜ r ≡ emptyState n start ⌝ }
+// A state of N threads in which none of them is there yet.
+pub(super) fn empty_state(header: Header) -> State
+    ensures { λ r. ⌜ r ≡ emptyState header ⌝ }
 {
     let none = Thread {
         parameters: Parameters {
@@ -41,8 +41,8 @@ pub(super) fn empty_state(n: u32, start: u64) -> State
         },
     };
     State {
-        header: Header { n: n, start: start },
-        now: start,
+        header: header,
+        now: header.start,
         idle: 0,
         word: 0,
         threads: [none; 32],
@@ -95,19 +95,19 @@ fn table_holds(n: usize, table: [Parameters; 32]) -> bool
 }
 
 // 5, 3 or 6 where the opening is refused, else 0.
-pub(super) fn open_status(start: u64, n: u32, table: [Parameters; 32]) -> u8
-    ensures { λ r. ⌜ r ≡ openStatus start n table ⌝ }
+pub(super) fn open_status(header: Header, table: [Parameters; 32]) -> u8
+    ensures { λ r. ⌜ r ≡ openStatus header table ⌝ }
 {
-    if n < 1 {
+    if header.n < 1 {
         return 5;
     }
-    if 32 < n {
+    if 32 < header.n {
         return 5;
     }
-    if 1000000000000000 < start {
+    if 1000000000000000 < header.start {
         return 3;
     }
-    if table_holds(n as usize, table) {
+    if table_holds(header.n as usize, table) {
         return 0;
     }
     6
@@ -144,14 +144,14 @@ fn enter(s: State, k: u8, p: Parameters) -> State
     r
 }
 
-// The first n threads of the table enter, in number order.
-pub(super) fn opened(start: u64, n: u32, table: [Parameters; 32]) -> State
-    requires { ⌜ openStatus start n table ≡ 0 ⌝ }
-    ensures { λ r. ⌜ r ≡ enteredBelow n table (emptyState n start) ⌝ }
+// The first N threads of the table enter, in number order.
+pub(super) fn opened(header: Header, table: [Parameters; 32]) -> State
+    requires { ⌜ openStatus header table ≡ 0 ⌝ }
+    ensures { λ r. ⌜ r ≡ enteredBelow (header .n) table (emptyState header) ⌝ }
 {
-    let mut s = empty_state(n, start);
+    let mut s = empty_state(header);
     let mut k: u32 = 0;
-    while k < n {
+    while k < header.n {
         let p = table[k as usize];
         s = enter(s, k as u8, p);
         k = k + 1;

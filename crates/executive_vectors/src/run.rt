@@ -9,6 +9,7 @@ use super::report;
 use super::report::Tally;
 use executive::Answer;
 use records::Event;
+use records::Header;
 use records::Parameters;
 use state::State;
 
@@ -58,7 +59,11 @@ fn outcome_of(before: State, a: Answer, time: u64) -> Outcome {
 // An opening of the table: start time and N. Where it is refused there are no threads and zeros.
 fn opened(table: [Parameters; 32], x: [u64; 20]) -> Outcome {
     let start = x[0];
-    let a = executive::open(start, change::word(x[1]), table);
+    let header = Header {
+        n: change::word(x[1]),
+        start: start,
+    };
+    let a = executive::open(header, table);
     outcome_of(make::zeros(), a, start)
 }
 
@@ -92,7 +97,7 @@ fn judged(s: State) -> [u64; 4] {
 
 // Parameters at opening and by a set of thread 0.
 fn tried(s: State, p: Parameters) -> [u64; 4] {
-    let a = executive::open(0, 1, [p; 32]);
+    let a = executive::open(Header { n: 1, start: 0 }, [p; 32]);
     let f = fault(make::zeros(), a, 0);
     let mut q = p;
     q.flag = 0;

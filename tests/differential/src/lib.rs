@@ -156,7 +156,7 @@ mod exported {
     // A slice is a pointer and then a length.
     extern "C" {
         pub fn thawonlai_event(state: *mut State, e: Event) -> Reply;
-        pub fn thawonlai_open(start: u64, n: u32, table: Table) -> Answer;
+        pub fn thawonlai_open(header: Header, table: Table) -> Answer;
         pub fn thawonlai_sound(s: State) -> u8;
         pub fn thawonlai_read(file: *const u8, length: usize) -> Found;
         pub fn thawonlai_copy(file: *const u8, length: usize, out: *mut u8, room: usize)
@@ -200,7 +200,7 @@ pub fn event(state: &mut State, e: Event) -> Reply {
 }
 
 pub fn open(start: u64, n: u32, table: Table) -> Answer {
-    unsafe { exported::thawonlai_open(start, n, table) }
+    unsafe { exported::thawonlai_open(Header { n, start }, table) }
 }
 
 pub fn sound(s: &State) -> u8 {

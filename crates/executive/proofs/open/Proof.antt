@@ -17,18 +17,18 @@ nothing-runs-requires c κs = tt
 returns : tie.Need-returns
 returns c =
     let a = c .before .before .before .before .args in
-    c .nothing-runs .ensures ∙ closed-is (a .start) (a .n) (a .table) _ (c .before .before .before .open-status .ensures) (c .before .before .if1 .taken) _ (c .before .empty-state .ensures)
+    c .nothing-runs .ensures ∙ closed-is (a .header) (a .table) _ (c .before .before .before .open-status .ensures) (c .before .before .if1 .taken) _ (c .before .empty-state .ensures)
 
 opened-requires : tie.Need-opened-requires
 opened-requires c κs = search needs
 
 answer-of-requires : tie.Need-answer-of-requires
-answer-of-requires c κs = let a = c .before .before .before .args in opened-state (a .start) (a .n) (a .table) _ (c .before .before .open-status .ensures) (c .before .if1 .left) _ (c .opened .ensures)
+answer-of-requires c κs = let a = c .before .before .before .args in opened-state (a .header) (a .table) _ (c .before .before .open-status .ensures) (c .before .if1 .left) _ (c .opened .ensures)
 
 returns-2 : tie.Need-returns-2
 returns-2 c =
     let a = c .before .before .before .before .args in
-    c .answer-of .ensures ∙ opened-is (a .start) (a .n) (a .table) _ (c .before .before .before .open-status .ensures) (c .before .before .if1 .left) _ (c .before .opened .ensures)
+    c .answer-of .ensures ∙ opened-is (a .header) (a .table) _ (c .before .before .before .open-status .ensures) (c .before .before .if1 .left) _ (c .before .opened .ensures)
 
 pub open-spec : {M : Type 1} → statement M
 open-spec =

@@ -8,7 +8,7 @@ empty-requires : tie.Need-empty-requires
 empty-requires c κs = search needs
 
 returns : tie.Need-returns
-returns c = empty-is (c .before .args .n) (c .before .args .start) (c .empty .result) (c .empty .ensures)
+returns c = empty-is (c .before .args .header) (c .empty .result) (c .empty .ensures)
 
 pub empty-state-spec : {M : Type 1} → statement M
 empty-state-spec = tie.close (tie.spec empty-requires returns)

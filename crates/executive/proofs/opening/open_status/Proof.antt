@@ -7,32 +7,35 @@ use Rattle.executive.proofs.opening.open_status.Statement.{statement}
 use Rattle.executive.proofs.opening.open_status.Tie as tie
 
 returns : tie.Need-returns
-returns c = let a = c .before .args in sym (status-none (a .start) (a .n) (a .table) (c .if1 .taken))
+returns c = let a = c .before .before .args in sym (status-none (a .header) (a .table) (c .if1 .taken))
 
 returns-2 : tie.Need-returns-2
-returns-2 c = let a = c .before .before .args in sym (status-many (a .start) (a .n) (a .table) (c .if2 .taken))
+returns-2 c = let a = c .before .before .before .before .args in sym (status-many (a .header) (a .table) (c .if2 .taken))
 
 returns-3 : tie.Need-returns-3
 returns-3 c =
-    let b = c .before in
-    let a = b .before .before .args in
-    sym (status-late (a .start) (a .n) (a .table) (b .before .if1 .left) (b .if2 .left) (c .if3 .taken))
+    let b = c .before .before in
+    let a = b .before .before .before .before .args in
+    sym (status-late (a .header) (a .table) (b .before .before .if1 .left) (b .if2 .left) (c .if3 .taken))
+
+cast-table-holds : tie.Need-cast-table-holds
+cast-table-holds c = search needs
 
 table-holds-requires : tie.Need-table-holds-requires
 table-holds-requires c κs = search needs
 
 returns-4 : tie.Need-returns-4
 returns-4 c =
-    let b = c .before .before .before in
-    let a = b .before .before .args in
-    sym (status-table (a .start) (a .n) (a .table) (b .before .if1 .left) (b .if2 .left) (c .before .before .if3 .left) true (sym (c .before .table-holds .ensures) ∙ c .if4 .taken))
+    let b = c .before .before .before .before .before in
+    let a = b .before .before .before .before .args in
+    sym (status-table (a .header) (a .table) (b .before .before .if1 .left) (b .if2 .left) (c .before .before .before .if3 .left) true (sym (c .before .table-holds .ensures) ∙ c .if4 .taken))
 
 returns-5 : tie.Need-returns-5
 returns-5 c =
-    let b = c .before .before .before in
-    let a = b .before .before .args in
-    sym (status-table (a .start) (a .n) (a .table) (b .before .if1 .left) (b .if2 .left) (c .before .before .if3 .left) false (sym (c .before .table-holds .ensures) ∙ c .if4 .left))
+    let b = c .before .before .before .before .before in
+    let a = b .before .before .before .before .args in
+    sym (status-table (a .header) (a .table) (b .before .before .if1 .left) (b .if2 .left) (c .before .before .before .if3 .left) false (sym (c .before .table-holds .ensures) ∙ c .if4 .left))
 
 pub open-status-spec : {M : Type 1} → statement M
 open-status-spec =
-    tie.close (tie.spec returns returns-2 returns-3 table-holds-requires returns-4 returns-5)
+    tie.close (tie.spec returns returns-2 returns-3 cast-table-holds table-holds-requires returns-4 returns-5)

@@ -11,17 +11,17 @@ use Rattle.executive.proofs.opening.opened.Statement.{statement}
 use Rattle.executive.proofs.opening.opened.Tie as tie
 
 abbrev Inv-loop : tie.InvT-loop
-Inv-loop start n table s₀ k₀ s k = (k ≤ n) × (n ≤ 32) × (s ≡ enteredBelow k table (emptyState n start))
+Inv-loop header table s₀ k₀ s k = (k ≤ header .n) × (header .n ≤ 32) × (s ≡ enteredBelow k table (emptyState header))
 
 abbrev μ-loop : tie.MeasureT-loop
-μ-loop start n table s₀ k₀ s k = n - k
+μ-loop header table s₀ k₀ s k = header .n - k
 
 empty-state-requires : tie.Need-empty-state-requires Inv-loop μ-loop
 empty-state-requires c κs = search needs
 
 loop-holds : tie.Need-loop-holds Inv-loop μ-loop
 unfolding enteredBelow
-loop-holds c = let a = c .before in (omega arith, few (a .args .start) (a .args .n) (a .args .t3) (a .pre), c .empty-state .ensures)
+loop-holds c = let a = c .before in (omega arith, few (a .args .header) (a .args .t2) (a .pre), c .empty-state .ensures)
 
 cast-p : tie.Need-cast-p Inv-loop μ-loop
 cast-p c = omega arith
@@ -37,9 +37,9 @@ cast-enter c = omega arith
 
 enter-requires : tie.Need-enter-requires Inv-loop μ-loop
 enter-requires c κs =
-    let b = c .before .before in
+    let b = c .before .before .before in
     let a = b .before .before in
-    next-enters (a .args .start) (a .args .n) (a .args .t3) (a .pre) (b .loop .k) (c .before .loop-test .taken) (b .loop .s) (b .loop .inv .2)
+    next-enters (a .args .header) (a .args .t2) (a .pre) (b .loop .k) (c .before .if1 .taken) (b .loop .s) (b .loop .inv .2)
 
 add-k : tie.Need-add-k Inv-loop μ-loop
 add-k c = omega arith
@@ -49,21 +49,21 @@ loop-less c = omega arith
 
 loop-again : tie.Need-loop-again Inv-loop μ-loop
 loop-again c =
-    let b = c .before .before .before in
+    let b = c .before .before .before .before in
     let a = b .before .before .args in (
       omega arith,
       omega arith,
       c .enter .ensures
-          ∙ ap (entered (b .loop .k) (getD (a .t3) (b .loop .k) noParameters)) (b .loop .inv .2)
-          ∙ below-next (a .t3) (b .loop .k) (emptyState (a .n) (a .start)),
+          ∙ ap (entered (b .loop .k) (getD (a .t2) (b .loop .k) noParameters)) (b .loop .inv .2)
+          ∙ below-next (a .t2) (b .loop .k) (emptyState (a .header)),
     )
 
 returns : tie.Need-returns Inv-loop μ-loop
 returns c =
-    let b = c .before in
+    let b = c .before .before in
     let a = b .before .before .args in
-    let e : b .loop .k ≡ a .n = omega arith in
-    b .loop .inv .2 ∙ ap (λ (x : ℕ). enteredBelow x (a .t3) (emptyState (a .n) (a .start))) e
+    let e : b .loop .k ≡ a .header .n = omega arith in
+    b .loop .inv .2 ∙ ap (λ (x : ℕ). enteredBelow x (a .t2) (emptyState (a .header))) e
 
 pub opened-spec : {M : Type 1} → statement M
 opened-spec =
