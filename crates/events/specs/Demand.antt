@@ -7,7 +7,7 @@ use lib.ListN.{length}
 use Rattle.records.specs.declared.Parameters.{Parameters}
 use Rattle.records.specs.declared.Header.{Header}
 use Rattle.records.specs.declared.Event.{Event}
-use Rattle.records.specs.Ranges.{lastTime}
+use Rattle.records.specs.Ranges.{highestPriority, lastTime}
 use Rattle.ready.specs.Lists.{threads, headOf}
 use Rattle.passing.specs.Time.{dueBy, chargeTo, moment}
 use Rattle.passing.specs.Sequence.{status, answer}
@@ -33,8 +33,8 @@ OpeningIsSound = (header : Header) (table : List Parameters) → opening header 
 
 -- 01 State 18: the running thread heads the highest list that has one, and nothing runs where no list has one
 pub record HeadOfHighest (s : State) : Type 0 where
-  pub idle : level s ≡ 0 → (running s ≡ 255) × ((p : ℕ) → 1 ≤ p → p ≤ 32 → threads p (s .lists) ≡ [])
-  pub busy : (level s ≡ 0 → ⊥) → (running s ≡ headOf (level s) (s .lists)) × (0 < length (threads (level s) (s .lists))) × ((p : ℕ) → level s < p → p ≤ 32 → threads p (s .lists) ≡ [])
+  pub idle : level s ≡ 0 → (running s ≡ 255) × ((p : ℕ) → 1 ≤ p → p ≤ highestPriority → threads p (s .lists) ≡ [])
+  pub busy : (level s ≡ 0 → ⊥) → (running s ≡ headOf (level s) (s .lists)) × (0 < length (threads (level s) (s .lists))) × ((p : ℕ) → level s < p → p ≤ highestPriority → threads p (s .lists) ≡ [])
 
 abbrev pub HeadRuns : Type 0
 HeadRuns = (s : State) → soundState s ≡ true → HeadOfHighest s

@@ -10,6 +10,7 @@ use Rattle.base.specs.Tests.{below}
 use Rattle.records.specs.Ranges.{mostThreads, mostReplenishments, lastTime, inRange, noParameters}
 use Rattle.ready.specs.Lists.{appended}
 use Rattle.base.specs.Refusals.{firstRefusal}
+use Rattle.rows.specs.Rows.{allSlots}
 use Rattle.passing.specs.Sequence.{Answer, accepted}
 use Rattle.state.specs.declared.State.{State}
 use Rattle.state.specs.State.{noThread, threadAt}
@@ -20,7 +21,7 @@ use Rattle.state.specs.Updates.{withLists, withAccount, withBlocked, stateOf}
 -- a state of so many threads, none of them there yet, at the start time
 abbrev pub emptyState : Header → State
 emptyState header =
-    stateOf header (header .start) 0 0 (replicate 32 noThread) (replicate 32 0) (replicate 256 0) (replicate 256 0) (replicate 1056 0)
+    stateOf header (header .start) 0 0 (replicate mostThreads noThread) (replicate mostThreads 0) (replicate allSlots 0) (replicate allSlots 0) (replicate 1056 0)
 
 -- 01 Status 20: a state of no threads and zeros
 abbrev pub noState : State

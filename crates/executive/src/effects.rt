@@ -1,9 +1,12 @@
 // What an event does to the state at its time.
 ghost use mathlib.Core.Path.{_≡_};
 ghost use mathlib.Core.Bool.{cond};
-ghost use Prim.Native.Nat.{_+_, _<_, _^_};
+ghost use Prim.Native.Nat.{_<_};
 ghost use lib.ListN.{length};
 ghost use lib.Dec.{leb};
+ghost use Rattle.records.specs.Ranges.{mostThreads};
+ghost use Rattle.account.specs.Rules.{Schedulable};
+ghost use Rattle.rows.specs.Rows.{allSlots};
 ghost use Rattle.ready.specs.Word.{occupancy};
 ghost use Rattle.ready.specs.Rules.{Joinable, Leavable, Movable};
 ghost use Rattle.state.specs.Updates.{withAccount};
@@ -17,7 +20,7 @@ use state::Thread;
 
 // Another thread and account at place i.
 pub(super) fn put(s0: State, i: usize, t: Thread, a: Account) -> State
-    requires { ⌜ (i < 32) × (length (s0 .dues) ≡ 256) × (length (s0 .amounts) ≡ 256) ⌝ }
+    requires { ⌜ (i < mostThreads) × (length (s0 .dues) ≡ allSlots) × (length (s0 .amounts) ≡ allSlots) ⌝ }
     ensures { λ r. ⌜ r ≡ withAccount i t a s0 ⌝ }
 {
     let mut s = s0;
@@ -58,7 +61,7 @@ fn change_to(t: Thread, a: Account, u: Thread, b: Account) -> Change
 
 // What an event does at its time to the thread that it concerns.
 pub(super) fn change_of(e: Event, t: Thread, a: Account) -> Change
-    requires { ⌜ (0 < e .kind) × (e .kind ≡ 1 → 1 < t .parameters .policy → (a .server .activation + t .parameters .period < 2 ^ 64) × (0 < a .server .used → a .pending .count < 8)) ⌝ }
+    requires { ⌜ (0 < e .kind) × (e .kind ≡ 1 → 1 < t .parameters .policy → Schedulable (t .parameters) (a .server) (a .pending .count)) ⌝ }
     ensures { λ r. ⌜ r ≡ changeOf (e .kind) (e .time) (e .parameters) t a ⌝ }
 {
     if e.kind == 1 {

@@ -2,6 +2,8 @@
 ghost use mathlib.Core.Path.{_≡_};
 ghost use mathlib.Core.Bool.{true};
 ghost use lib.ListN.{length};
+ghost use Rattle.records.specs.Ranges.{mostThreads};
+ghost use Rattle.rows.specs.Rows.{allSlots};
 ghost use Rattle.state.specs.Sound.{soundState};
 ghost use Rattle.executive.specs.Answer.{eventAnswer, openAnswer};
 ghost use Rattle.state.specs.Updates.{stateOf};
@@ -9,6 +11,8 @@ use account::Account;
 use records::Event;
 use records::Header;
 use records::Parameters;
+use rows::SLOTS;
+use rows::THREADS;
 use state::State;
 use state::Thread;
 
@@ -27,7 +31,7 @@ pub struct Answer {
 }
 
 // Opens a state: the first N threads of the table, at the start time. Any values may be handed in.
-pub fn open(header: Header, table: [Parameters; 32]) -> Answer
+pub fn open(header: Header, table: [Parameters; THREADS]) -> Answer
     ensures { λ r. ⌜ r ≡ openAnswer header table ⌝ }
 {
     let status = opening::open_status(header, table);
@@ -46,14 +50,14 @@ fn known_sound<'a>(
     time: u64,
     idle: u64,
     word: u32,
-    threads: [Thread; 32],
-    counts: &'a [u8; 32],
-    dues: &'a [u64; 256],
-    amounts: &'a [u64; 256],
+    threads: [Thread; THREADS],
+    counts: &'a [u8; THREADS],
+    dues: &'a [u64; SLOTS],
+    amounts: &'a [u64; SLOTS],
     lists: &'a [u8; 1056],
 ) -> bool
     requires { ⌜ (known ≡ true → soundState (stateOf header time idle word threads (now counts) (now dues) (now amounts) (now lists)) ≡ true)
-        × (length (now counts) ≡ 32) × (length (now dues) ≡ 256) × (length (now amounts) ≡ 256) ⌝ }
+        × (length (now counts) ≡ mostThreads) × (length (now dues) ≡ allSlots) × (length (now amounts) ≡ allSlots) ⌝ }
     ensures { λ r. ⌜ r ≡ soundState (stateOf header time idle word threads (now (counts .entry)) (now (dues .entry)) (now (amounts .entry)) (now (lists .entry))) ⌝ }
 {
     if known {

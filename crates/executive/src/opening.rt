@@ -5,14 +5,18 @@ ghost use Prim.Native.Nat.{_<_, _≤_};
 ghost use lib.Dec.{leb, eqb};
 ghost use lib.ListN.{length, getD};
 ghost use Rattle.base.specs.Tests.{below};
-ghost use Rattle.records.specs.Ranges.{inRange, noParameters};
+ghost use Rattle.records.specs.Ranges.{mostThreads, mostReplenishments, inRange, noParameters};
+ghost use Rattle.rows.specs.Rows.{allSlots};
 ghost use Rattle.ready.specs.Word.{occupancy};
 ghost use Rattle.ready.specs.Rules.{Joinable};
 ghost use Rattle.events.specs.Opening.{emptyState, withoutFlag, entered, enteredBelow, openStatus};
 use super::effects;
 use super::parts;
+use account::ENTRIES;
 use records::Header;
 use records::Parameters;
+use rows::SLOTS;
+use rows::THREADS;
 use sporadic::Server;
 use state::State;
 use state::Thread;
@@ -45,10 +49,10 @@ pub(super) fn empty_state(header: Header) -> State
         now: header.start,
         idle: 0,
         word: 0,
-        threads: [none; 32],
-        counts: [0u8; 32],
-        dues: [0u64; 256],
-        amounts: [0u64; 256],
+        threads: [none; THREADS],
+        counts: [0u8; THREADS],
+        dues: [0u64; SLOTS],
+        amounts: [0u64; SLOTS],
         lists: ready::empty(),
     }
 }
@@ -70,18 +74,18 @@ fn without_flag(p: Parameters) -> Parameters
 
 // Whether a thread may be opened with these parameters.
 fn may_open(p: Parameters) -> bool
-    ensures { λ r. ⌜ r ≡ (inRange 8 p && leb (p .flag) 1) ⌝ }
+    ensures { λ r. ⌜ r ≡ (inRange mostReplenishments p && leb (p .flag) 1) ⌝ }
 {
-    if records::in_range(p, 8) {
+    if records::in_range(p, ENTRIES as u8) {
         return p.flag <= 1;
     }
     false
 }
 
 // Whether the first n threads of the table may be opened.
-fn table_holds(n: usize, table: [Parameters; 32]) -> bool
-    requires { ⌜ n ≤ 32 ⌝ }
-    ensures { λ r. ⌜ r ≡ below n (λ i. inRange 8 (getD table i noParameters) && leb (getD table i noParameters .flag) 1) ⌝ }
+fn table_holds(n: usize, table: [Parameters; THREADS]) -> bool
+    requires { ⌜ n ≤ mostThreads ⌝ }
+    ensures { λ r. ⌜ r ≡ below n (λ i. inRange mostReplenishments (getD table i noParameters) && leb (getD table i noParameters .flag) 1) ⌝ }
 {
     let mut i = n;
     while 0 < i {
@@ -95,13 +99,13 @@ fn table_holds(n: usize, table: [Parameters; 32]) -> bool
 }
 
 // 5, 3 or 6 where the opening is refused, else 0.
-pub(super) fn open_status(header: Header, table: [Parameters; 32]) -> u8
+pub(super) fn open_status(header: Header, table: [Parameters; THREADS]) -> u8
     ensures { λ r. ⌜ r ≡ openStatus header table ⌝ }
 {
     if header.n < 1 {
         return 5;
     }
-    if 32 < header.n {
+    if (THREADS as u32) < header.n {
         return 5;
     }
     if 1000000000000000 < header.start {
@@ -125,7 +129,7 @@ fn starts_blocked(flag: u32) -> u8
 
 // Thread k enters with its parameters; with the start flag it becomes the tail of its list.
 fn enter(s: State, k: u8, p: Parameters) -> State
-    requires { ⌜ (k < 32) × (length (s .dues) ≡ 256) × (length (s .amounts) ≡ 256) × (s .word ≡ occupancy (s .lists))
+    requires { ⌜ (k < mostThreads) × (length (s .dues) ≡ allSlots) × (length (s .amounts) ≡ allSlots) × (s .word ≡ occupancy (s .lists))
         × (eqb (p .flag) 0 ≡ false → Joinable (s .word) (p .priority) (s .lists)) ⌝ }
     ensures { λ r. ⌜ r ≡ entered k p s ⌝ }
 {
@@ -145,7 +149,7 @@ fn enter(s: State, k: u8, p: Parameters) -> State
 }
 
 // The first N threads of the table enter, in number order.
-pub(super) fn opened(header: Header, table: [Parameters; 32]) -> State
+pub(super) fn opened(header: Header, table: [Parameters; THREADS]) -> State
     requires { ⌜ openStatus header table ≡ 0 ⌝ }
     ensures { λ r. ⌜ r ≡ enteredBelow (header .n) table (emptyState header) ⌝ }
 {

@@ -2,24 +2,26 @@
 ghost use mathlib.Core.Path.{_≡_};
 ghost use mathlib.Core.Bool.{true, false, cond, not, _&&_};
 ghost use lib.Dec.{leb, eqb};
-ghost use Prim.Native.Nat.{_+_, _<_, _^_};
-ghost use Rattle.records.specs.Ranges.{byPolicy, inRange, allZero};
-ghost use Rattle.account.specs.Rules.{blocking, waking};
+ghost use Prim.Native.Nat.{_<_};
+ghost use Rattle.records.specs.Ranges.{byPolicy, mostThreads, mostReplenishments, inRange, allZero};
+ghost use Rattle.account.specs.Rules.{Schedulable, blocking, waking};
 ghost use Rattle.events.specs.Effects.{fullQuantum, ifSporadic, renewed, newAccount};
 ghost use Rattle.events.specs.Answers.{fieldStatusOf, stateStatusOf};
 ghost use Rattle.state.specs.Updates.{withBlocked};
 use account::Account;
+use account::ENTRIES;
 use account::Pending;
 use records::Event;
 use records::Parameters;
+use rows::THREADS;
 use sporadic::Server;
 use state::Thread;
 
 // A thread's number as an index that never strays; 0 where there is no such place.
 pub(super) fn index(x: u8) -> usize
-    ensures { λ r. ⌜ (r < 32) × (x < 32 → r ≡ x) ⌝ }
+    ensures { λ r. ⌜ (r < mostThreads) × (x < mostThreads → r ≡ x) ⌝ }
 {
-    if x < 32 {
+    if (x as usize) < THREADS {
         return x as usize;
     }
     0
@@ -105,8 +107,8 @@ pub(super) fn new_account(time: u64, p: Parameters) -> Account
             },
             pending: Pending {
                 count: 0,
-                dues: [0u64; 8],
-                amounts: [0u64; 8],
+                dues: [0u64; ENTRIES],
+                amounts: [0u64; ENTRIES],
             },
         };
     }
@@ -115,7 +117,7 @@ pub(super) fn new_account(time: u64, p: Parameters) -> Account
 
 // The account of a thread that blocks.
 pub(super) fn after_block(time: u64, t: Thread, a: Account) -> Account
-    requires { ⌜ (1 < t .parameters .policy → (a .server .activation + t .parameters .period < 2 ^ 64) × (0 < a .server .used → a .pending .count < 8)) ⌝ }
+    requires { ⌜ (1 < t .parameters .policy → Schedulable (t .parameters) (a .server) (a .pending .count)) ⌝ }
     ensures { λ r. ⌜ r ≡ ifSporadic t (blocking time false (t .parameters) a .account) a ⌝ }
 {
     if t.parameters.policy < 2 {
@@ -150,10 +152,10 @@ fn bad_thread(n: u32, kind: u8, thread: u8) -> bool
 
 // Whether an event of this kind must not have these parameters.
 fn bad_parameters(kind: u8, p: Parameters) -> bool
-    ensures { λ r. ⌜ r ≡ cond (eqb kind 4) (not (inRange 8 p && eqb (p .flag) 0)) (not (allZero p)) ⌝ }
+    ensures { λ r. ⌜ r ≡ cond (eqb kind 4) (not (inRange mostReplenishments p && eqb (p .flag) 0)) (not (allZero p)) ⌝ }
 {
     if kind == 4 {
-        if records::in_range(p, 8) {
+        if records::in_range(p, ENTRIES as u8) {
             return p.flag != 0;
         }
         return true;

@@ -4,6 +4,9 @@ use mathlib.Core.Path.{sym, _∙_}
 use Rattle.executive.proofs.opening.may_open.Statement.{statement}
 use Rattle.executive.proofs.opening.may_open.Tie as tie
 
+cast-in-range : tie.Need-cast-in-range
+cast-in-range c = search needs
+
 in-range-requires : tie.Need-in-range-requires
 in-range-requires c κs = search needs
 
@@ -14,4 +17,4 @@ returns-2 : tie.Need-returns-2
 returns-2 c = simp (sym (c .before .in-range .ensures) ∙ c .if1 .left)
 
 pub may-open-spec : {M : Type 1} → statement M
-may-open-spec = tie.close (tie.spec in-range-requires returns returns-2)
+may-open-spec = tie.close (tie.spec cast-in-range in-range-requires returns returns-2)

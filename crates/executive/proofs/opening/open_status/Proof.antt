@@ -9,6 +9,9 @@ use Rattle.executive.proofs.opening.open_status.Tie as tie
 returns : tie.Need-returns
 returns c = let a = c .before .before .args in sym (status-none (a .header) (a .table) (c .if1 .taken))
 
+cast-if2 : tie.Need-cast-if2
+cast-if2 c = search needs
+
 returns-2 : tie.Need-returns-2
 returns-2 c = let a = c .before .before .before .before .args in sym (status-many (a .header) (a .table) (c .if2 .taken))
 
@@ -38,4 +41,4 @@ returns-5 c =
 
 pub open-status-spec : {M : Type 1} → statement M
 open-status-spec =
-    tie.close (tie.spec returns returns-2 returns-3 cast-table-holds table-holds-requires returns-4 returns-5)
+    tie.close (tie.spec returns cast-if2 returns-2 returns-3 cast-table-holds table-holds-requires returns-4 returns-5)

@@ -8,6 +8,9 @@ use Rattle.base.proofs.TestLaws.{cond-false}
 use Rattle.executive.proofs.parts.bad_parameters.Statement.{statement}
 use Rattle.executive.proofs.parts.bad_parameters.Tie as tie
 
+cast-in-range : tie.Need-cast-in-range
+cast-in-range c = search needs
+
 in-range-requires : tie.Need-in-range-requires
 in-range-requires c κs = search needs
 
@@ -25,4 +28,4 @@ returns-3 c = ap not (c .all-zero .ensures) ∙ sym (cond-false (eqb (c .before 
 
 pub bad-parameters-spec : {M : Type 1} → statement M
 bad-parameters-spec =
-    tie.close (tie.spec in-range-requires returns returns-2 all-zero-requires returns-3)
+    tie.close (tie.spec cast-in-range in-range-requires returns returns-2 all-zero-requires returns-3)
