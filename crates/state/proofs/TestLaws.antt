@@ -1,8 +1,8 @@
 -- Laws of tests: every number below n, the last test of a list, the policies.
 use Prim.Native.Nat.{ℕ, zero, suc, _+_, _≤_, _<_}
-use mathlib.Core.Bool.{Bool, true, false, not}
+use mathlib.Core.Bool.{Bool, true, false, cond, not}
 use mathlib.Core.Path.{_≡_, refl, sym, _∙_}
-use mathlib.Core.List.{List, [], _∷_}
+use mathlib.Core.List.{List, [], _∷_, _++_}
 use lib.Dec.{eqb}
 use native.Mathlib.Numerals.{add-one}
 use native.Mathlib.Omega.{arith}
@@ -22,6 +22,13 @@ decided-false r e f = sym e ∙ not-true r f
 infixr 3 _and_
 pub _and_ : {A B : Type 0} → A → B → A × B
 p and q = (p, q)
+
+-- the tests of one list and then of another
+pub all-append : (xs ys : List Bool) → all (xs ++ ys) ≡ cond (all xs) (all ys) false
+unfolding all
+all-append [] ys = refl
+all-append (true ∷ xs) ys = all-append xs ys
+all-append (false ∷ xs) ys = refl
 
 -- where all tests of a list but the last one hold, the last one decides
 abbrev pub butLast : List Bool → List Bool

@@ -1,7 +1,7 @@
 -- When a state is sound (01 State 5 to 17), as tests that compute.
 use Prim.Native.Nat.{ℕ, _+_}
 use mathlib.Core.Bool.{Bool, cond}
-use mathlib.Core.List.{List, [], _∷_}
+use mathlib.Core.List.{List, [], _∷_, _++_}
 use lib.ListN.{length}
 use lib.Dec.{ltb, leb, eqb}
 use Rattle.base.specs.Tests.{all, below, zeros}
@@ -14,10 +14,13 @@ use Rattle.state.specs.declared.Thread.{Thread}
 use Rattle.state.specs.declared.State.{State}
 use Rattle.state.specs.State.{isBlocked, threadAt, pendingAt, place}
 
+-- 01 State 17: no capacity, no U and no activation time
+abbrev pub serverTests : Server → List Bool
+serverTests s = eqb (s .capacity) 0 ∷ eqb (s .used) 0 ∷ eqb (s .activation) 0 ∷ []
+
 -- 01 State 17: a thread that is not sporadic has no account
 abbrev pub noAccountTests : Server → Pending → List Bool
-noAccountTests s q =
-    eqb (s .capacity) 0 ∷ eqb (s .used) 0 ∷ eqb (s .activation) 0 ∷ eqb (q .count) 0 ∷ all (zeros (q .dues)) ∷ all (zeros (q .amounts)) ∷ []
+noAccountTests s q = serverTests s ++ (eqb (q .count) 0 ∷ all (zeros (q .dues)) ∷ all (zeros (q .amounts)) ∷ [])
 
 -- 01 State 15 and 17: the quantum left is 1 to quantum for RR, and 0 for any other
 abbrev pub leftTests : Thread → List Bool
@@ -35,28 +38,29 @@ accountTest start now t q =
     (all (noAccountTests (t .server) q))
     (soundAt start now (isBlocked t) (t .parameters) (record { server = t .server; pending = q }))
 
--- 01 State 2, 6, 10 to 15, 17: a thread below N; it is blocked (1) or runnable (0)
+-- 01 State 2, 6, 15, 17: a thread below N, less its account; it is blocked (1) or runnable (0)
+abbrev pub presentFields : Thread → List Bool
+presentFields t =
+    inRange mostReplenishments (t .parameters) ∷ eqb (t .parameters .flag) 0 ∷ leb (t .blocked) 1 ∷ all (leftTests t) ∷ []
+
+-- 01 State 17: no thread, less its account
+abbrev pub absentFields : Thread → List Bool
+absentFields t = allZero (t .parameters) ∷ eqb (t .blocked) 0 ∷ eqb (t .total) 0 ∷ eqb (t .left) 0 ∷ []
+
+-- 01 State 2, 6, 10 to 15, 17: a thread below N
 unfoldable pub presentTest : ℕ → ℕ → Thread → Pending → Bool
-presentTest start now t q =
-    all
-    (inRange mostReplenishments (t .parameters)
-    ∷ eqb (t .parameters .flag) 0
-    ∷ leb (t .blocked) 1
-    ∷ all (leftTests t)
-    ∷ accountTest start now t q
-    ∷ [])
+presentTest start now t q = all (presentFields t ++ (accountTest start now t q ∷ []))
 
 -- 01 State 17: a place from N on holds nothing
 unfoldable pub absentTest : Thread → Pending → Bool
-absentTest t q =
-    all
-    (allZero (t .parameters) ∷ eqb (t .blocked) 0 ∷ eqb (t .total) 0 ∷ eqb (t .left) 0 ∷ all (noAccountTests (t .server) q) ∷ [])
+absentTest t q = all (absentFields t ++ (all (noAccountTests (t .server) q) ∷ []))
+
+-- a thread below N (`present`), and none from N on
+abbrev pub presenceTest : Bool → ℕ → ℕ → Thread → Pending → Bool
+presenceTest present start now t q = cond present (presentTest start now t q) (absentTest t q)
 
 abbrev pub threadTest : State → ℕ → Bool
-threadTest s i =
-    cond (ltb i (s .header .n))
-    (presentTest (s .header .start) (s .now) (threadAt s i) (pendingAt s i))
-    (absentTest (threadAt s i) (pendingAt s i))
+threadTest s i = presenceTest (ltb i (s .header .n)) (s .header .start) (s .now) (threadAt s i) (pendingAt s i)
 
 -- 01 State 16: the sum of all run times
 abbrev pub totals : List Thread → ℕ

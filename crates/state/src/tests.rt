@@ -4,22 +4,29 @@ ghost use mathlib.Core.Bool.{cond};
 ghost use Prim.Native.Nat.{_<_};
 ghost use lib.ListN.{length};
 ghost use Rattle.base.specs.Tests.{all, zeros};
-ghost use Rattle.rows.specs.Rows.{slotsAt, pendingOf};
-ghost use Rattle.state.specs.Sound.{noAccountTests, leftTests, accountTest, presentTest, absentTest};
+ghost use Rattle.records.specs.Ranges.{mostThreads};
+ghost use Rattle.rows.specs.Rows.{allSlots, slotsAt, pendingOf};
+ghost use Rattle.state.specs.Sound.{serverTests, leftTests, presentFields, absentFields, presenceTest};
 use super::Thread;
 use account::Account;
+use account::ENTRIES;
+use rows::SLOTS;
+use rows::THREADS;
 use sporadic::Server;
 
-// Whether thread i's eight places hold 0.
-fn row_zero(xs: &[u64; 256], i: usize) -> bool
-    requires { ⌜ (i < 32) × (length (now xs) ≡ 256) ⌝ }
+// The largest max_repl.
+const MOST_REPL: u8 = ENTRIES as u8;
+
+// Whether thread i's slots hold 0.
+fn row_zero(xs: &[u64; SLOTS], i: usize) -> bool
+    requires { ⌜ (i < mostThreads) × (length (now xs) ≡ allSlots) ⌝ }
     ensures { λ r. ⌜ r ≡ all (zeros (slotsAt i (now (xs .entry)))) ⌝ }
 {
     // to the end in any case: a loop that may return early is compiled number by number
-    let from = i * 8;
+    let from = i * ENTRIES;
     let mut clean = true;
     let mut j: usize = 0;
-    while j < 8 {
+    while j < ENTRIES {
         let x = xs[from + j];
         j = j + 1;
         if x != 0 {
@@ -30,16 +37,9 @@ fn row_zero(xs: &[u64; 256], i: usize) -> bool
     clean
 }
 
-// Whether thread i has no account.
-fn no_account<'a>(
-    s: Server,
-    counts: &'a [u8; 32],
-    dues: &'a [u64; 256],
-    amounts: &'a [u64; 256],
-    i: usize,
-) -> bool
-    requires { ⌜ (i < 32) × (length (now dues) ≡ 256) × (length (now amounts) ≡ 256) ⌝ }
-    ensures { λ r. ⌜ r ≡ all (noAccountTests s (pendingOf (now (counts .entry)) (now (dues .entry)) (now (amounts .entry)) i)) ⌝ }
+// Whether capacity, U and activation time are 0.
+fn no_server(s: Server) -> bool
+    ensures { λ r. ⌜ r ≡ all (serverTests s) ⌝ }
 {
     if s.capacity != 0 {
         return false;
@@ -47,16 +47,7 @@ fn no_account<'a>(
     if s.used != 0 {
         return false;
     }
-    if s.activation != 0 {
-        return false;
-    }
-    if counts[i] != 0 {
-        return false;
-    }
-    if !row_zero(dues, i) {
-        return false;
-    }
-    row_zero(amounts, i)
+    s.activation == 0
 }
 
 // Whether the quantum left is 1 to quantum for RR, and 0 for any other.
@@ -72,46 +63,12 @@ fn left_holds(t: Thread) -> bool
     t.left <= t.parameters.budget
 }
 
-// Whether a sporadic thread's account is sound, and any other thread has none.
-fn account_holds<'a>(
-    start: u64,
-    time: u64,
-    t: Thread,
-    counts: &'a [u8; 32],
-    dues: &'a [u64; 256],
-    amounts: &'a [u64; 256],
-    i: usize,
-) -> bool
-    requires { ⌜ (i < 32) × (length (now dues) ≡ 256) × (length (now amounts) ≡ 256) ⌝ }
-    ensures { λ r. ⌜ r ≡ accountTest start time t (pendingOf (now (counts .entry)) (now (dues .entry)) (now (amounts .entry)) i) ⌝ }
-{
-    let s = t.server;
-    if t.parameters.policy < 2 {
-        return no_account(s, counts, dues, amounts, i);
-    }
-    let p = t.parameters;
-    let a = Account {
-        server: s,
-        pending: rows::pending_at(counts, dues, amounts, i),
-    };
-    account_sound::sound(p, a, 0 < t.blocked, start, time)
-}
-
-// Whether a thread below N is sound.
-fn present_sound<'a>(
-    start: u64,
-    time: u64,
-    t: Thread,
-    counts: &'a [u8; 32],
-    dues: &'a [u64; 256],
-    amounts: &'a [u64; 256],
-    i: usize,
-) -> bool
-    requires { ⌜ (i < 32) × (length (now dues) ≡ 256) × (length (now amounts) ≡ 256) ⌝ }
-    ensures { λ r. ⌜ r ≡ presentTest start time t (pendingOf (now (counts .entry)) (now (dues .entry)) (now (amounts .entry)) i) ⌝ }
+// Whether a thread below N is in range; its account is asked apart.
+fn present_fields(t: Thread) -> bool
+    ensures { λ r. ⌜ r ≡ all (presentFields t) ⌝ }
 {
     let p = t.parameters;
-    if !records::in_range(p, 8) {
+    if !records::in_range(p, MOST_REPL) {
         return false;
     }
     if p.flag != 0 {
@@ -120,22 +77,12 @@ fn present_sound<'a>(
     if 1 < t.blocked {
         return false;
     }
-    if !left_holds(t) {
-        return false;
-    }
-    account_holds(start, time, t, counts, dues, amounts, i)
+    left_holds(t)
 }
 
-// Whether a place from N on holds nothing.
-fn absent_zero<'a>(
-    t: Thread,
-    counts: &'a [u8; 32],
-    dues: &'a [u64; 256],
-    amounts: &'a [u64; 256],
-    i: usize,
-) -> bool
-    requires { ⌜ (i < 32) × (length (now dues) ≡ 256) × (length (now amounts) ≡ 256) ⌝ }
-    ensures { λ r. ⌜ r ≡ absentTest t (pendingOf (now (counts .entry)) (now (dues .entry)) (now (amounts .entry)) i) ⌝ }
+// Whether a thread from N on is none; its account is asked apart.
+fn absent_fields(t: Thread) -> bool
+    ensures { λ r. ⌜ r ≡ all (absentFields t) ⌝ }
 {
     let p = t.parameters;
     if !records::all_zero(p) {
@@ -147,29 +94,53 @@ fn absent_zero<'a>(
     if t.total != 0 {
         return false;
     }
-    if t.left != 0 {
-        return false;
-    }
-    let s = t.server;
-    no_account(s, counts, dues, amounts, i)
+    t.left == 0
 }
 
-// The test of place i, with a thread (`present`) or without.
+// The same of any thread number: below N (`present`), or not.
+fn fields_hold(present: bool, t: Thread) -> bool
+    ensures { λ r. ⌜ r ≡ all (cond present (presentFields t) (absentFields t)) ⌝ }
+{
+    if present {
+        return present_fields(t);
+    }
+    absent_fields(t)
+}
+
+// Whether thread i is sound, or is none where i is not below N. Where it is none its policy is 0, so that it has no account.
 pub(super) fn thread_holds<'a>(
     present: bool,
     start: u64,
     time: u64,
     t: Thread,
-    counts: &'a [u8; 32],
-    dues: &'a [u64; 256],
-    amounts: &'a [u64; 256],
+    counts: &'a [u8; THREADS],
+    dues: &'a [u64; SLOTS],
+    amounts: &'a [u64; SLOTS],
     i: usize,
 ) -> bool
-    requires { ⌜ (i < 32) × (length (now dues) ≡ 256) × (length (now amounts) ≡ 256) ⌝ }
-    ensures { λ r. ⌜ r ≡ cond present (presentTest start time t (pendingOf (now (counts .entry)) (now (dues .entry)) (now (amounts .entry)) i)) (absentTest t (pendingOf (now (counts .entry)) (now (dues .entry)) (now (amounts .entry)) i)) ⌝ }
+    requires { ⌜ (i < mostThreads) × (length (now dues) ≡ allSlots) × (length (now amounts) ≡ allSlots) ⌝ }
+    ensures { λ r. ⌜ r ≡ presenceTest present start time t (pendingOf (now (counts .entry)) (now (dues .entry)) (now (amounts .entry)) i) ⌝ }
 {
-    if present {
-        return present_sound(start, time, t, counts, dues, amounts, i);
+    if !fields_hold(present, t) {
+        return false;
     }
-    absent_zero(t, counts, dues, amounts, i)
+    let p = t.parameters;
+    let s = t.server;
+    if 1 < p.policy {
+        let a = Account {
+            server: s,
+            pending: rows::pending_at(counts, dues, amounts, i),
+        };
+        return account_sound::sound(p, a, 0 < t.blocked, start, time);
+    }
+    if !no_server(s) {
+        return false;
+    }
+    if counts[i] != 0 {
+        return false;
+    }
+    if !row_zero(dues, i) {
+        return false;
+    }
+    row_zero(amounts, i)
 }

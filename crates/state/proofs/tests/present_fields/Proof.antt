@@ -1,0 +1,42 @@
+-- `state::tests::present_fields` meets its contract.
+use mathlib.Core.Path.{sym}
+use borrow.Author.Needs.{needs}
+use borrow.Author.Tests.{eq-eqb, ne-eqb, le-leb, lt-leb}
+use Rattle.base.proofs.TestLaws.{all-false}
+use Rattle.state.specs.Sound.{presentFields}
+use Rattle.state.proofs.TestLaws.{decided-true, decided-false, _and_, by-last}
+use Rattle.state.proofs.tests.present_fields.Statement.{statement}
+use Rattle.state.proofs.tests.present_fields.Tie as tie
+
+in-range-requires : tie.Need-in-range-requires
+in-range-requires c κs = search needs
+
+returns : tie.Need-returns
+returns c = sym (all-false _ 0 (decided-false _ (c .before .in-range .ensures) (c .if1 .taken)))
+
+returns-2 : tie.Need-returns-2
+returns-2 c = sym (all-false _ 1 (ne-eqb _ _ (c .if2 .taken)))
+
+returns-3 : tie.Need-returns-3
+returns-3 c = sym (all-false _ 2 (lt-leb _ _ (c .if3 .taken)))
+
+left-holds-requires : tie.Need-left-holds-requires
+left-holds-requires c κs = search needs
+
+returns-4 : tie.Need-returns-4
+returns-4 c =
+    let b = c .before .before .before in
+    let d = b .before .before in
+    by-last (presentFields (d .before .before .before .args .t)) (c .left-holds .ensures)
+    (decided-true _ (d .before .in-range .ensures) (d .if1 .left) and eq-eqb _ _ (b .if2 .left) and le-leb _ _ (c .before .if3 .left) and tt)
+
+pub present-fields-spec : {M : Type 1} → statement M
+present-fields-spec =
+    tie.close
+    (tie.spec
+    in-range-requires
+    returns
+    returns-2
+    returns-3
+    left-holds-requires
+    returns-4)
