@@ -201,11 +201,11 @@ fn word_of(lists: &[u8; 1056]) -> u32
     ensures { λ r. ⌜ r ≡ occupancy (now (lists .entry)) ⌝ }
 {
     let mut word: u32 = 0;
-    let mut p: u8 = 0;
-    while p < 32 {
-        p = p + 1;
-        if lists[row_start(p)] != 0 {
-            word = word + bit(p);
+    let mut level: u8 = 0;
+    while level < 32 {
+        level = level + 1;
+        if lists[row_start(level)] != 0 {
+            word = word + bit(level);
         }
     }
     word
