@@ -14,12 +14,12 @@ use Rattle.rows.specs.Rows.{withSlots}
 use Rattle.state.specs.Sound.{presentTest, absentTest, soundState}
 use Rattle.ticks.specs.Running.{nextDue}
 use Rattle.moments.specs.Moments.{limits, replenish, replenishBelow, fire}
-use Rattle.events.specs.Effects.{changeOf, effect}
+use Rattle.events.specs.Events.{changeOf, happened}
 use Rattle.events.specs.Answers.{fieldStatusOf, stateStatusOf}
 use Rattle.events.specs.Opening.{enteredBelow, openStatus, opening}
 use Rattle.events.specs.Table.{listOf, TableHolds}
 
 -- the replay's seven events and the five rows
 pub table-holds : TableHolds
-unfolding lib.Count.leadingZeros all below fifoInRange rrInRange sporadicInRange inRange allZero scheduled limitEffect returnEffect soundAt withThreads without occurs wordOf occupancy soundRow soundRows soundLists run firstRefusal status answer withSlots presentTest absentTest soundState nextDue limits replenish replenishBelow fire changeOf effect fieldStatusOf stateStatusOf enteredBelow openStatus opening listOf
+unfolding lib.Count.leadingZeros all below fifoInRange rrInRange sporadicInRange inRange allZero scheduled limitEffect returnEffect soundAt withThreads without occurs wordOf occupancy soundRow soundRows soundLists run firstRefusal status answer withSlots presentTest absentTest soundState nextDue limits replenish replenishBelow fire changeOf happened fieldStatusOf stateStatusOf enteredBelow openStatus opening listOf
 table-holds = refl

@@ -31,10 +31,10 @@ use Rattle.moments.specs.Moments.{fire, clock, passed}
 use Rattle.moments.proofs.FireLaws.{header-fire}
 use Rattle.moments.proofs.ChargeLaws.{later, no-word}
 use Rattle.moments.proofs.MomentLaws.{passing}
-use Rattle.events.specs.Effects.{effect}
+use Rattle.events.specs.Events.{happened}
 use Rattle.events.specs.Answers.{fieldStatusOf, stateStatusOf, fieldStatus, executive, badKind, badParameters}
 use Rattle.events.specs.Demand.{ReadingsChangeNothing, AcceptedIsSound, OpeningIsSound, HeadRuns, TimesAddUp, NextIsLater, PassingComposes, PassesByMoments}
-use Rattle.events.proofs.EventLaws.{effect-sound}
+use Rattle.events.proofs.EventLaws.{happened-sound}
 use Rattle.events.proofs.OpeningLaws.{opening-sound}
 
 -- the fields of an event are judged by N alone
@@ -47,7 +47,7 @@ pub field-passed : (s : State) (e : Event) → fieldStatus (passed s (e .time)) 
 field-passed s e = field-header s (passed s (e .time)) e (keeps clock (λ (v : State). v .header) (λ k v. refl) header-fire s (e .time))
 
 pub lawful : MachineLaws executive
-unfolding fieldStatusOf stateStatusOf effect firstRefusal allZero fifoInRange all
+unfolding fieldStatusOf stateStatusOf happened firstRefusal allZero fifoInRange all
 lawful =
     record {
       passing = passing;
@@ -70,7 +70,7 @@ accepted-sound s e z =
     let u = sound-advance clock passing s (e .time) (a .sound) (a .after) (a .inRange) in
     let f : fieldStatus (advance clock s (e .time)) e ≡ 0 = field-passed s e ∙ a .fields in
     subst⁻¹ (λ (x : Answer State). soundState (x .state) ≡ true) (answer-accepted executive s e z)
-    (state-in (effect (advance clock s (e .time)) e) (effect-sound (advance clock s (e .time)) (state-out (advance clock s (e .time)) u) e f (a .state)))
+    (state-in (happened (advance clock s (e .time)) e) (happened-sound (advance clock s (e .time)) (state-out (advance clock s (e .time)) u) e f (a .state)))
 
 pub opening-is-sound : OpeningIsSound
 opening-is-sound = opening-sound

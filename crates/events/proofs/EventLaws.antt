@@ -29,9 +29,9 @@ use Rattle.moments.proofs.ChangeLaws.{withBound, changed}
 use Rattle.moments.proofs.ChargeLaws.{runs}
 use Rattle.moments.proofs.FireLaws.{bounds-same}
 use Rattle.events.specs.declared.Change.{Change}
-use Rattle.events.specs.Effects.{renewed, newAccount, changeOf, shifted, withChange, concerned, eventChange, effect}
+use Rattle.events.specs.Events.{renewed, newAccount, changeOf, shifted, withChange, concerned, eventChange, happened}
 use Rattle.events.specs.Answers.{fieldStatusOf, stateStatusOf, fieldStatus, stateStatus}
-use Rattle.events.proofs.EffectLaws.{Fits, block-fits, quantum-fits, wake-fits, set-fits}
+use Rattle.events.proofs.FitLaws.{Fits, block-fits, quantum-fits, wake-fits, set-fits}
 use Rattle.state.specs.Updates.{withServer}
 
 -- a list's priority, or 0 for a place with no thread
@@ -201,7 +201,7 @@ module _ (s : State) (h : Sound s) (e : Event) (f : fieldStatus s e ≡ 0) (g : 
           }
       go (suc (suc (suc (suc (suc k))))) z l = absurd (omega (arith, ltb-false 4 (suc (suc (suc (suc (suc k))))) (fields (suc (suc (suc (suc (suc k))))) z .0)))
 
-  pub effect-sound : Sound (effect s e)
-  unfolding effect
-  effect-sound =
+  pub happened-sound : Sound (happened s e)
+  unfolding happened
+  happened-sound =
       cond-elim Sound (eqb (e .kind) 0) s _ (λ q. h) (λ q. right-sound s h (concerned s e) (eventChange s e) (change-right (omega (arith, eqb-false (e .kind) 0 q))))

@@ -1,5 +1,5 @@
 -- Laws of the executive.
-pub mod EffectLaws
+pub mod FitLaws
 pub mod EventLaws
 pub mod OpeningLaws
 pub mod DemandLaws

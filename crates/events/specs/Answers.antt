@@ -12,7 +12,7 @@ use Rattle.state.specs.State.{isBlocked, threadAt}
 use Rattle.state.specs.Sound.{soundState}
 use Rattle.ticks.specs.Running.{idles, running}
 use Rattle.moments.specs.Moments.{clock}
-use Rattle.events.specs.Effects.{effect}
+use Rattle.events.specs.Events.{happened}
 
 -- 01 Status 5: no such kind
 abbrev pub badKind : Event → Bool
@@ -60,5 +60,5 @@ executive =
       reading = reading;
       fieldStatus = fieldStatus;
       stateStatus = stateStatus;
-      effect = effect;
+      effect = happened;
     }

@@ -33,8 +33,8 @@ OpeningIsSound = (header : Header) (table : List Parameters) → opening header 
 
 -- 01 State 18: the running thread heads the highest list that has one, and nothing runs where no list has one
 pub record HeadOfHighest (s : State) : Type 0 where
-  pub idle : level s ≡ 0 → (running s ≡ 255) × ((p : ℕ) → 1 ≤ p → p ≤ highestPriority → threads p (s .lists) ≡ [])
-  pub busy : (level s ≡ 0 → ⊥) → (running s ≡ headOf (level s) (s .lists)) × (0 < length (threads (level s) (s .lists))) × ((p : ℕ) → level s < p → p ≤ highestPriority → threads p (s .lists) ≡ [])
+  pub idle : level s ≡ 0 → (running s ≡ 255) × ((list : ℕ) → 1 ≤ list → list ≤ highestPriority → threads list (s .lists) ≡ [])
+  pub busy : (level s ≡ 0 → ⊥) → (running s ≡ headOf (level s) (s .lists)) × (0 < length (threads (level s) (s .lists))) × ((list : ℕ) → level s < list → list ≤ highestPriority → threads list (s .lists) ≡ [])
 
 abbrev pub HeadRuns : Type 0
 HeadRuns = (s : State) → soundState s ≡ true → HeadOfHighest s

@@ -1,5 +1,5 @@
 -- What a reader of `events` must believe.
-pub mod Effects
+pub mod Events
 pub mod Answers
 pub mod Opening
 pub mod Demand

@@ -14,7 +14,7 @@ use Rattle.rows.specs.Rows.{allSlots}
 use Rattle.passing.specs.Sequence.{Answer, accepted}
 use Rattle.state.specs.declared.State.{State}
 use Rattle.state.specs.State.{noThread, threadAt}
-use Rattle.events.specs.Effects.{renewed, newAccount}
+use Rattle.events.specs.Events.{renewed, newAccount}
 use Rattle.events.specs.Answers.{executive}
 use Rattle.state.specs.Updates.{withLists, withAccount, withBlocked, stateOf}
 

@@ -38,7 +38,7 @@ pub record Shown : Type 0 where
 -- the highest of the lists 1 to n in which thread i stands, 0 for none
 unfoldable pub listOf : ℕ → ℕ → List ℕ → ℕ
 listOf zero i l = 0
-listOf (suc p) i l = cond (eqb (occurs i (threads (suc p) l)) 0) (listOf p i l) (suc p)
+listOf (suc level) i l = cond (eqb (occurs i (threads (suc level) l)) 0) (listOf level i l) (suc level)
 
 abbrev pub seen : State → ℕ → Seen
 seen s i =

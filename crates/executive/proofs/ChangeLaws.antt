@@ -5,7 +5,7 @@ use native.Mathlib.Omega.{arith}
 use Rattle.records.specs.declared.Parameters.{Parameters}
 use Rattle.account.specs.declared.Account.{Account}
 use Rattle.state.specs.declared.Thread.{Thread}
-use Rattle.events.specs.Effects.{changeOf}
+use Rattle.events.specs.Events.{changeOf}
 
 module _ (kind now : ℕ) (p : Parameters) (t : Thread) (a : Account) where
   pub change-at : (k : ℕ) → kind ≡ k → changeOf k now p t a ≡ changeOf kind now p t a

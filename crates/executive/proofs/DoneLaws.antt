@@ -1,4 +1,4 @@
--- The change of the thread that an event concerns, as the code puts it into the state, is the event's effect; and the lists allow it.
+-- The change of the thread that an event concerns, as the code puts it into the state, is what the event does; and the lists allow it.
 use Prim.Native.Nat.{ℕ, _+_, _<_, _^_}
 use mathlib.Core.Bool.{Bool, true, false, cond}
 use mathlib.Core.Path.{_≡_, refl, sym, ap, _∙_}
@@ -23,19 +23,19 @@ use Rattle.state.specs.Updates.{withLists, withAccount, withServer, stateOf}
 use Rattle.state.proofs.SoundLaws.{state-out}
 use Rattle.ticks.specs.Running.{level, head, idles}
 use Rattle.events.specs.declared.Change.{Change}
-use Rattle.events.specs.Effects.{changeOf, shifted, withChange, concerned, eventChange, effect}
+use Rattle.events.specs.Events.{changeOf, shifted, withChange, concerned, eventChange, happened}
 use Rattle.events.specs.Answers.{fieldStatus, stateStatus}
 use Rattle.events.proofs.EventLaws.{Right, to-most, busy, change-right}
 use Rattle.executive.proofs.StateLaws.{put-is, lists-are}
 use Rattle.executive.proofs.RequiresLaws.{block-requires}
 
-pub effect-none : (s : State) (e : Event) → e .kind ≡ 0 → s ≡ effect s e
-unfolding effect
-effect-none s e z = sym (cond-true (eqb (e .kind) 0) s _ (eq-eqb (e .kind) 0 z))
+pub happened-none : (s : State) (e : Event) → e .kind ≡ 0 → s ≡ happened s e
+unfolding happened
+happened-none s e z = sym (cond-true (eqb (e .kind) 0) s _ (eq-eqb (e .kind) 0 z))
 
-effect-some : (s : State) (e : Event) → 0 < e .kind → withChange (concerned s e) (eventChange s e) s ≡ effect s e
-unfolding effect
-effect-some s e l = sym (cond-false (eqb (e .kind) 0) s _ (ne-eqb (e .kind) 0 (λ z. omega arith)))
+happened-some : (s : State) (e : Event) → 0 < e .kind → withChange (concerned s e) (eventChange s e) s ≡ happened s e
+unfolding happened
+happened-some s e l = sym (cond-false (eqb (e .kind) 0) s _ (ne-eqb (e .kind) 0 (λ z. omega arith)))
 
 -- an event at its time and the thread n that it concerns, which stands at place j
 pub record Concerns (s : State) (e : Event) (n j : ℕ) : Type 0 where
@@ -97,7 +97,7 @@ module _ (s : State) (e : Event) (n j : ℕ) (v : Concerns s e n j) where
           → (d m k : List ℕ) (w : ℕ) → d ≡ withSlots j (c .account .pending .dues) (s .dues) → m ≡ withSlots j (c .account .pending .amounts) (s .amounts)
           → k ≡ shifted n (c .from) (c .to) (s .lists) → w ≡ occupancy (shifted n (c .from) (c .to) (s .lists))
           → (stateOf (s .header) (s .now) (s .idle) w (lists.set (s .threads) j u) (lists.set (s .counts) j (c .account .pending .count)) d m k)
-          ≡ effect s e
+          ≡ happened s e
       change-is u eu d m k w ed em ek ew =
           lists-are
           (stateOf (s .header) (s .now) (s .idle) (s .word) (lists.set (s .threads) j u) (lists.set (s .counts) j (c .account .pending .count)) d m (s .lists))
@@ -105,4 +105,4 @@ module _ (s : State) (e : Event) (n j : ℕ) (v : Concerns s e n j) where
           ∙ ap (withLists (shifted n (c .from) (c .to) (s .lists))) (put-is s j (c .thread) (c .account) u d m eu ed em ∙ ap (λ (i : ℕ). withAccount i (c .thread) (c .account) s) (v .there))
           ∙ ap (λ (i : ℕ). withChange i c s) (v .who)
           ∙ ap (λ (x : Change). withChange (concerned s e) x s) given
-          ∙ effect-some s e (v .some)
+          ∙ happened-some s e (v .some)

@@ -23,7 +23,7 @@ use Rattle.base.proofs.RefusalLaws.{passed}
 use Rattle.state.specs.declared.Thread.{Thread}
 use Rattle.state.specs.declared.State.{State}
 use Rattle.state.specs.State.{noThread, threadAt, place}
-use Rattle.events.specs.Effects.{renewed, newAccount}
+use Rattle.events.specs.Events.{renewed, newAccount}
 use Rattle.events.specs.Opening.{emptyState, noState, withoutFlag, entered, enteredBelow, openStatus, opening}
 use Rattle.events.proofs.EventLaws.{and-both}
 use Rattle.events.proofs.OpeningLaws.{Entered, unplaced, below-entered, opened-sound}

@@ -1,4 +1,4 @@
--- What the functions that the effects call require, from the soundness of the state.
+-- What the functions that an event calls require, from the soundness of the state.
 use Prim.Native.Nat.{ℕ, _+_, _≤_, _<_, _^_}
 use mathlib.Core.Bool.{Bool, true, false}
 use mathlib.Core.Path.{_≡_, refl, ap, subst⁻¹}

@@ -4,7 +4,7 @@ use mathlib.Core.Path.{_≡_, refl}
 use mathlib.Core.List.{List}
 use native.Mathlib.Omega.{arith}
 use Rattle.ready.specs.Lists.{appended, removed, moved}
-use Rattle.events.specs.Effects.{shifted}
+use Rattle.events.specs.Events.{shifted}
 
 module _ (k : ℕ) (l : List ℕ) where
   pub shift-none : (p q : ℕ) → p ≡ 0 → q ≡ 0 → l ≡ shifted k p q l

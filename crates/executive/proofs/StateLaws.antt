@@ -1,4 +1,4 @@
--- The states that the functions of the effects make are those that the definitions say.
+-- The states that the functions of a change and of an opening make are those that the definitions say.
 use Prim.Native.Nat.{ℕ}
 use mathlib.Core.Path.{_≡_}
 use mathlib.Core.List.{List}

@@ -25,9 +25,9 @@ use Rattle.ticks.specs.Running.{running, next, idles}
 use Rattle.moments.specs.Moments.{clock, passed}
 use Rattle.moments.proofs.ChargeLaws as moments
 use Rattle.moments.proofs.MomentLaws.{passing}
-use Rattle.events.specs.Effects.{effect}
+use Rattle.events.specs.Events.{happened}
 use Rattle.events.specs.Answers.{fieldStatus, stateStatusOf, stateStatus, executive}
-use Rattle.events.proofs.EventLaws.{effect-sound}
+use Rattle.events.proofs.EventLaws.{happened-sound}
 use Rattle.events.proofs.DemandLaws.{field-passed}
 use Rattle.executive.specs.Answer.{returned, eventAnswer}
 use Rattle.executive.specs.Private.{answered, unread, timeStatus, earlyStatus, soundStatus}
@@ -87,7 +87,7 @@ pub record Open (s₀ : State) (e : Event) (s : State) : Type 0 where
   pub top : e .time ≤ 1000000000000000
   pub fields : fieldStatus s e ≡ 0
   pub allows : stateStatus s e ≡ 0
-  pub same : answered 0 (effect (passed s (e .time)) e) ≡ eventAnswer s₀ e
+  pub same : answered 0 (happened (passed s (e .time)) e) ≡ eventAnswer s₀ e
 
 -- what holds between the turns of an event's loop
 pub record Stage (s₀ : State) (e : Event) (status : ℕ) (s : State) (done : Bool) : Type 0 where
@@ -200,20 +200,20 @@ module _ (s₀ : State) (e : Event) (s : State) (o : Open s₀ e s) where
           fields = l .1;
           allows = l .2;
           same =
-              ap (λ (x : State). answered 0 (effect x e))
+              ap (λ (x : State). answered 0 (happened x e))
               (ap (λ (x : State). passed x (e .time)) f ∙ advance-advance clock passing s (e .time) (e .time) (o .sound) (o .by) (omega arith) (o .top))
               ∙ o .same;
         }
 
     -- what the event does there
-    module _ (r : State) (g : r ≡ effect u e) where
+    module _ (r : State) (g : r ≡ happened u e) where
       done-sound : soundState r ≡ true
       done-sound =
           let l = later in
-          subst⁻¹ (λ (x : State). soundState x ≡ true) g (state-in (effect u e) (effect-sound u (state-out u (l .0)) e (l .1) (l .2)))
+          subst⁻¹ (λ (x : State). soundState x ≡ true) g (state-in (happened u e) (happened-sound u (state-out u (l .0)) e (l .1) (l .2)))
 
       done-is : answered 0 r ≡ eventAnswer s₀ e
-      done-is = ap (answered 0) (g ∙ ap (λ (x : State). effect x e) f) ∙ o .same
+      done-is = ap (answered 0) (g ∙ ap (λ (x : State). happened x e) f) ∙ o .same
 
 -- ---- the turns of an event's loop
 
@@ -239,7 +239,7 @@ module _ (s₀ : State) (e : Event) (k : ℕ) (s : State) (z : k ≡ 0) (o : Ope
       }
 
   -- the event has done what it does
-  pub finishes : (r : State) → r ≡ effect u e → Stage s₀ e k r true
+  pub finishes : (r : State) → r ≡ happened u e → Stage s₀ e k r true
   finishes r g =
       record {
         sound = done-sound s₀ e s o u f r g;

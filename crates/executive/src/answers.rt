@@ -13,13 +13,13 @@ pub(super) fn answer_of(status: u8, s: State) -> Answer
     requires { ⌜ soundState s ≡ true ⌝ }
     ensures { λ r. ⌜ r ≡ answered status s ⌝ }
 {
-    let p = ready::highest(s.word);
-    let h = ticks::head_at(&s.lists, p);
+    let level = ready::highest(s.word);
+    let h = ticks::head_at(&s.lists, level);
     let i = base::wide(h);
     let t = s.threads[i];
     let n = s.header.n as usize;
     let runs = ticks::running(s.word, &s.lists);
-    let next = ticks::next_moment(s.now, p, t, &s.counts, &s.dues, n);
+    let next = ticks::next_moment(s.now, level, t, &s.counts, &s.dues, n);
     Answer {
         status: status,
         running: runs,
@@ -76,6 +76,6 @@ pub(super) fn status_of(n: u32, now: u64, word: u32, blocked: bool, e: Event) ->
     if early != 0 {
         return early;
     }
-    let p = ready::highest(word);
-    parts::state_status(e.kind, p == 0, blocked)
+    let level = ready::highest(word);
+    parts::state_status(e.kind, level == 0, blocked)
 }

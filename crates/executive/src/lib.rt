@@ -17,7 +17,7 @@ use state::State;
 use state::Thread;
 
 mod answers; // answers.rt: who runs and when to ask again
-mod effects; // effects.rt: what an accepted event does to the state
+mod changes; // changes.rt: what an accepted event does to the state
 mod opening; // opening.rt: the state that a table of threads gives
 mod parts; // parts.rt: what an event does to one thread and its account
 
@@ -78,7 +78,7 @@ fn known_sound<'a>(
 
 // An event for a state that is changed in place: each call that took the state would copy it. The last turn of the loop
 // gives the answer; the turns before it bring the state to the event's time and do what the event does.
-fn run(mut s: State, e: Event, known: bool) -> Answer
+fn answer_event(mut s: State, e: Event, known: bool) -> Answer
     requires { ⌜ (known ≡ true → soundState s ≡ true) ⌝ }
     ensures { λ r. ⌜ r ≡ eventAnswer s e ⌝ }
 {
@@ -109,11 +109,11 @@ fn run(mut s: State, e: Event, known: bool) -> Answer
     let mut done = status != 0;
     loop {
         let n = s.header.n as usize;
-        let p = ready::highest(s.word);
-        let h = ticks::head_at(&s.lists, p);
+        let level = ready::highest(s.word);
+        let h = ticks::head_at(&s.lists, level);
         let i = base::wide(h);
         let runner = s.threads[i];
-        let next = ticks::next_moment(s.now, p, runner, &s.counts, &s.dues, n);
+        let next = ticks::next_moment(s.now, level, runner, &s.counts, &s.dues, n);
         if done {
             let runs = ticks::running(s.word, &s.lists);
             return Answer {
@@ -130,14 +130,14 @@ fn run(mut s: State, e: Event, known: bool) -> Answer
         }
         done = true;
         let k = e.time - s.now;
-        let charged = ticks::charged_thread(p, k, runner);
+        let charged = ticks::charged_thread(level, k, runner);
         s.threads[i] = charged;
-        s.idle = ticks::charged_idle(p, k, s.idle);
+        s.idle = ticks::charged_idle(level, k, s.idle);
         s.now = e.time;
         if e.kind == 0 {
             continue;
         }
-        let number = effects::concerned(e.kind, e.thread, h);
+        let number = changes::concerned(e.kind, e.thread, h);
         let j = base::wide(number);
         let t = s.threads[j];
         let q = rows::pending_at(&s.counts, &s.dues, &s.amounts, j);
@@ -146,7 +146,7 @@ fn run(mut s: State, e: Event, known: bool) -> Answer
             server: v,
             pending: q,
         };
-        let c = effects::change_of(e, t, a);
+        let c = changes::change_of(e, t, a);
         let u = c.thread;
         let b = c.account;
         let served = b.server;
@@ -159,7 +159,7 @@ fn run(mut s: State, e: Event, known: bool) -> Answer
         rows::write_row(&mut s.dues, j, dues);
         rows::write_row(&mut s.amounts, j, amounts);
         let word = s.word;
-        s.word = effects::shift(&mut s.lists, word, number, c.from, c.to);
+        s.word = changes::shift(&mut s.lists, word, number, c.from, c.to);
     }
 }
 
@@ -168,12 +168,12 @@ pub fn step(s: State, e: Event) -> Answer
     requires { ⌜ soundState s ≡ true ⌝ }
     ensures { λ r. ⌜ r ≡ eventAnswer s e ⌝ }
 {
-    run(s, e, true)
+    answer_event(s, e, true)
 }
 
 // An event for any state: one that is not sound is refused with 9 and comes back as it was.
 pub fn event(s: State, e: Event) -> Answer
     ensures { λ r. ⌜ r ≡ eventAnswer s e ⌝ }
 {
-    run(s, e, false)
+    answer_event(s, e, false)
 }

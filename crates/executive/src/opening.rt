@@ -10,7 +10,7 @@ ghost use Rattle.rows.specs.Rows.{allSlots};
 ghost use Rattle.ready.specs.Word.{occupancy};
 ghost use Rattle.ready.specs.Rules.{Joinable};
 ghost use Rattle.events.specs.Opening.{emptyState, withoutFlag, entered, enteredBelow, openStatus};
-use super::effects;
+use super::changes;
 use super::parts;
 use account::ENTRIES;
 use records::Header;
@@ -139,7 +139,7 @@ fn enter(s: State, k: u8, p: Parameters) -> State
     let t = parts::with_blocked(starts_blocked(p.flag), none);
     let u = parts::renew(q, t);
     let b = parts::new_account(s.now, q);
-    let mut r = effects::put(s, i, u, b);
+    let mut r = changes::put(s, i, u, b);
     if p.flag == 0 {
         return r;
     }

@@ -5,7 +5,7 @@ ghost use lib.Dec.{leb, eqb};
 ghost use Prim.Native.Nat.{_<_};
 ghost use Rattle.records.specs.Ranges.{byPolicy, mostThreads, mostReplenishments, inRange, allZero};
 ghost use Rattle.account.specs.Rules.{Schedulable, blocking, waking};
-ghost use Rattle.events.specs.Effects.{fullQuantum, ifSporadic, renewed, newAccount};
+ghost use Rattle.events.specs.Events.{fullQuantum, ifSporadic, renewed, newAccount};
 ghost use Rattle.events.specs.Answers.{fieldStatusOf, stateStatusOf};
 ghost use Rattle.state.specs.Updates.{withBlocked};
 use account::Account;

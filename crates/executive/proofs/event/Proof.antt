@@ -5,11 +5,11 @@ use Rattle.executive.proofs.event.Statement.{statement}
 use Rattle.executive.proofs.event.Tie as tie
 
 -- nothing is known of the state
-run-requires : tie.Need-run-requires
-run-requires c κs = λ q. false-true q
+answer-event-requires : tie.Need-answer-event-requires
+answer-event-requires c κs = λ q. false-true q
 
 returns : tie.Need-returns
 returns c = search needs
 
 pub event-spec : {M : Type 1} → statement M
-event-spec = tie.close (tie.spec run-requires returns)
+event-spec = tie.close (tie.spec answer-event-requires returns)

@@ -1,7 +1,7 @@
--- `executive::effects::concerned` meets its contract.
+-- `executive::changes::concerned` meets its contract.
 use borrow.Author.Tests.{le-leb, lt-leb}
-use Rattle.executive.proofs.effects.concerned.Statement.{statement}
-use Rattle.executive.proofs.effects.concerned.Tie as tie
+use Rattle.executive.proofs.changes.concerned.Statement.{statement}
+use Rattle.executive.proofs.changes.concerned.Tie as tie
 
 returns : tie.Need-returns
 returns c = simp (le-leb _ _ (c .if1 .taken))

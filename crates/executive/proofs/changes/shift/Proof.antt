@@ -1,9 +1,9 @@
--- `executive::effects::shift` meets its contract.
+-- `executive::changes::shift` meets its contract.
 use mathlib.Core.Path.{ap, _∙_}
 use Rattle.ready.specs.Word.{occupancy}
 use Rattle.executive.proofs.ShiftLaws.{shift-none, shift-joins, shift-leaves, shift-moves}
-use Rattle.executive.proofs.effects.shift.Statement.{statement}
-use Rattle.executive.proofs.effects.shift.Tie as tie
+use Rattle.executive.proofs.changes.shift.Statement.{statement}
+use Rattle.executive.proofs.changes.shift.Tie as tie
 
 returns : tie.Need-returns
 returns c =

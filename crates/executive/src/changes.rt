@@ -10,7 +10,7 @@ ghost use Rattle.rows.specs.Rows.{allSlots};
 ghost use Rattle.ready.specs.Word.{occupancy};
 ghost use Rattle.ready.specs.Rules.{Joinable, Leavable, Movable};
 ghost use Rattle.state.specs.Updates.{withAccount};
-ghost use Rattle.events.specs.Effects.{becomes, changeOf, shifted};
+ghost use Rattle.events.specs.Events.{becomes, changeOf, shifted};
 use super::parts;
 use account::Account;
 use events::Change;

@@ -77,6 +77,6 @@ concerned s e = cond (leb (e .kind) 2) (head s) (e .thread)
 abbrev pub eventChange : State → Event → Change
 eventChange s e = changeOf (e .kind) (s .now) (e .parameters) (threadAt s (concerned s e)) (accountAt s (concerned s e))
 
--- 01 Events 2 to 6: nothing for a clock, else the change of the thread that the event concerns
-unfoldable pub effect : State → Event → State
-effect s e = cond (eqb (e .kind) 0) s (withChange (concerned s e) (eventChange s e) s)
+-- 01 Events 2 to 6: the state once an event has happened: as it was after a clock, else with the change of the thread that the event concerns
+unfoldable pub happened : State → Event → State
+happened s e = cond (eqb (e .kind) 0) s (withChange (concerned s e) (eventChange s e) s)

@@ -1,4 +1,4 @@
--- `executive::run` meets its contract: each turn either passes time, does what the event does, or gives the answer.
+-- `executive::answer_event` meets its contract: each turn either passes time, does what the event does, or gives the answer.
 use borrow.Author.Needs.{needs}
 use Prim.Native.Nat.{ℕ, suc, _-_, _<_}
 use mathlib.Core.Bool.{true, false, cond}
@@ -23,10 +23,10 @@ use Rattle.state.specs.Updates.{stateOf}
 use Rattle.executive.proofs.AnswerLaws.{answered-is}
 use Rattle.executive.proofs.RequiresLaws.{dues-length, amounts-length}
 use Rattle.executive.proofs.StepLaws.{Open, Stage, unsound-is, arrives, at-time, still-due, turn-falls, turn-ends, starts, carries, finishes}
-use Rattle.executive.proofs.DoneLaws.{Concerns, effect-none, who-is, change-small, change-requires, change-is}
+use Rattle.executive.proofs.DoneLaws.{Concerns, happened-none, who-is, change-small, change-requires, change-is}
 use Rattle.executive.proofs.DoneLaws as laws
-use Rattle.executive.proofs.run.Statement.{statement}
-use Rattle.executive.proofs.run.Tie as tie
+use Rattle.executive.proofs.answer_event.Statement.{statement}
+use Rattle.executive.proofs.answer_event.Tie as tie
 
 abbrev Inv-loop : tie.InvT-loop
 Inv-loop e known s₀ x status done₀ s done = Stage s₀ e status s done
@@ -192,7 +192,7 @@ loop-less-2 c = turn-ends _ _ (c .before .before .before .before .before .before
 loop-again-2 : tie.Need-loop-again-2 Inv-loop μ-loop
 loop-again-2 c =
     let b = c .before .before in
-    finishes _ (eventOf (still b)) _ (stateHere (still b)) (accepted b) (to-come (still b)) (atTime b) (has-passed b) (atTime b) (effect-none (atTime b) (eventOf (still b)) (c .if4 .taken))
+    finishes _ (eventOf (still b)) _ (stateHere (still b)) (accepted b) (to-come (still b)) (atTime b) (has-passed b) (atTime b) (happened-none (atTime b) (eventOf (still b)) (c .if4 .taken))
 
 concerned-requires : tie.Need-concerned-requires Inv-loop μ-loop
 concerned-requires c κs = tt
@@ -269,8 +269,8 @@ loop-again-3 c =
     finishes _ e _ (stateHere (still b)) (accepted b) (to-come (still b)) (atTime b) (has-passed b) _
     (change-is (atTime b) e _ _ (concerns k) _ (c .before .before .before .before .before .before .before .before .before .before .before .before .before .before .before .pending-at .ensures) _ (c .before .before .before .before .before .before .before .before .before .before .before .before .before .change-of .ensures) _ (c .before .before .before .before .before .before .with-server .ensures) _ _ _ _ (c .before .before .before .before .write-row .ensures) (c .before .before .write-row2 .ensures) (c .shift .ensures .0) (c .shift .ensures .1))
 
-pub run-spec : {M : Type 1} → statement M
-run-spec =
+pub answer-event-spec : {M : Type 1} → statement M
+answer-event-spec =
     tie.close
     (tie.spec
     Inv-loop

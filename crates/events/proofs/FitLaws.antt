@@ -1,4 +1,4 @@
--- Each effect leaves a sound state.
+-- A thread and an account, as each kind of event leaves them, fit a sound state.
 use Prim.Native.Nat.{ℕ, zero, suc, _≤_}
 use mathlib.Core.Bool.{Bool, true, false}
 use mathlib.Core.Path.{_≡_, refl, sym, ap, _∙_, subst, subst⁻¹}
@@ -23,7 +23,7 @@ use Rattle.state.specs.State.{isBlocked, assigned}
 use Rattle.state.proofs.SoundLaws.{ThreadSound, range-out, fifo-out, rr-out, sporadic-out}
 use Rattle.state.proofs.SoundLaws.ThreadSound.{absent, fifo, rr, sporadic}
 use Rattle.ticks.proofs.RunLaws.{by-zero, by-one, by-two}
-use Rattle.events.specs.Effects.{fullQuantum, ifSporadic, noAccount, renewed, newAccount}
+use Rattle.events.specs.Events.{fullQuantum, ifSporadic, noAccount, renewed, newAccount}
 use Rattle.state.specs.Updates.{withBlocked, withServer}
 
 -- a thread and an account that fit a place of a sound state

@@ -1,10 +1,10 @@
--- `executive::effects::change_to` meets its contract.
+-- `executive::changes::change_to` meets its contract.
 use borrow.Author.Needs.{needs}
 use mathlib.Core.Path.{ap, _∙_}
 use Rattle.state.specs.declared.Thread.{Thread}
 use Rattle.state.specs.State.{placeOf}
-use Rattle.executive.proofs.effects.change_to.Statement.{statement}
-use Rattle.executive.proofs.effects.change_to.Tie as tie
+use Rattle.executive.proofs.changes.change_to.Statement.{statement}
+use Rattle.executive.proofs.changes.change_to.Tie as tie
 
 with-server-requires : tie.Need-with-server-requires
 with-server-requires c κs = search needs

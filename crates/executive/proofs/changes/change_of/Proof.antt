@@ -1,12 +1,12 @@
--- `executive::effects::change_of` meets its contract.
+-- `executive::changes::change_of` meets its contract.
 use borrow.Author.Needs.{needs}
 use mathlib.Core.Path.{ap, ap₂, _∙_}
 use Rattle.state.specs.declared.Thread.{Thread}
 use Rattle.state.specs.Updates.{withBlocked}
-use Rattle.events.specs.Effects.{becomes, changeOf}
+use Rattle.events.specs.Events.{becomes, changeOf}
 use Rattle.executive.proofs.ChangeLaws.{change-at, change-last}
-use Rattle.executive.proofs.effects.change_of.Statement.{statement}
-use Rattle.executive.proofs.effects.change_of.Tie as tie
+use Rattle.executive.proofs.changes.change_of.Statement.{statement}
+use Rattle.executive.proofs.changes.change_of.Tie as tie
 
 with-blocked-requires : tie.Need-with-blocked-requires
 with-blocked-requires c κs = search needs

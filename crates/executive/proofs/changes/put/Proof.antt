@@ -1,8 +1,8 @@
--- `executive::effects::put` meets its contract.
+-- `executive::changes::put` meets its contract.
 use borrow.Author.Needs.{needs}
 use Rattle.executive.proofs.StateLaws.{put-is}
-use Rattle.executive.proofs.effects.put.Statement.{statement}
-use Rattle.executive.proofs.effects.put.Tie as tie
+use Rattle.executive.proofs.changes.put.Statement.{statement}
+use Rattle.executive.proofs.changes.put.Tie as tie
 
 with-server-requires : tie.Need-with-server-requires
 with-server-requires c κs = search needs
