@@ -4,6 +4,8 @@ ghost use mathlib.Core.Bool.{true};
 ghost use Rattle.state.specs.Sound.{soundState};
 ghost use Rattle.executive.specs.Private.{answered, unread, timeStatus, earlyStatus, soundStatus};
 use super::Answer;
+use super::LAST_TIME;
+use super::LONGEST_STEP;
 use super::parts;
 use records::Event;
 use state::State;
@@ -44,13 +46,13 @@ pub(super) fn nothing_runs(status: u8, s: State) -> Answer
 fn time_status(now: u64, time: u64) -> u8
     ensures { λ r. ⌜ r ≡ timeStatus now time ⌝ }
 {
-    if 1000000000000000 < time {
+    if LAST_TIME < time {
         return 3;
     }
     if time < now {
         return 1;
     }
-    if 1000000 < time - now {
+    if LONGEST_STEP < time - now {
         return 2;
     }
     0

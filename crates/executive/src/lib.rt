@@ -21,6 +21,11 @@ mod changes; // changes.rt: what an accepted event does to the state
 mod opening; // opening.rt: the state that a table of threads gives
 mod parts; // parts.rt: what an event does to one thread and its account
 
+// 01 Numbers 5 and 6: the last time, and how far an accepted event may be after the time now.
+const LAST_TIME: u64 = 1000000000000000;
+
+const LONGEST_STEP: u64 = 1000000;
+
 // Status, the running thread or 255, the next moment or 0, and the state.
 #[repr(C)]
 pub struct Answer {

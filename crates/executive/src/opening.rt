@@ -10,6 +10,7 @@ ghost use Rattle.rows.specs.Rows.{allSlots};
 ghost use Rattle.ready.specs.Word.{occupancy};
 ghost use Rattle.ready.specs.Rules.{Joinable};
 ghost use Rattle.events.specs.Opening.{emptyState, withoutFlag, entered, enteredBelow, openStatus};
+use super::LAST_TIME;
 use super::changes;
 use super::parts;
 use account::ENTRIES;
@@ -108,7 +109,7 @@ pub(super) fn open_status(header: Header, table: [Parameters; THREADS]) -> u8
     if (THREADS as u32) < header.n {
         return 5;
     }
-    if 1000000000000000 < header.start {
+    if LAST_TIME < header.start {
         return 3;
     }
     if table_holds(header.n as usize, table) {
