@@ -1,5 +1,5 @@
 -- The change of the thread that an event concerns, as the code puts it into the state, is what the event does; and the lists allow it.
-use Prim.Native.Nat.{ℕ, _+_, _<_, _^_}
+use Prim.Native.Nat.{ℕ, _<_}
 use mathlib.Core.Bool.{Bool, true, false, cond}
 use mathlib.Core.Path.{_≡_, refl, sym, ap, _∙_}
 use mathlib.Core.List.{List}
@@ -10,6 +10,7 @@ use borrow.Author.Tests.{eq-eqb, ne-eqb, leb-true}
 use Rattle.records.specs.declared.Event.{Event}
 use Rattle.base.proofs.TestLaws.{cond-true, cond-false}
 use Rattle.account.specs.declared.Pending.{Pending}
+use Rattle.account.specs.Rules.{Schedulable}
 use Rattle.ready.specs.Lists.{headOf}
 use Rattle.ready.specs.Word.{occupancy}
 use Rattle.ready.specs.Rules.{Leavable, Joinable, Movable}
@@ -66,7 +67,7 @@ module _ (s : State) (e : Event) (n j : ℕ) (v : Concerns s e n j) where
   change-small = omega (arith, right .small, v .who, v .there)
 
   module _ (q : Pending) (eq : q ≡ pendingAt s j) where
-    pub change-requires : e .kind ≡ 1 → 1 < threadAt s j .parameters .policy → (threadAt s j .server .activation + threadAt s j .parameters .period < 2 ^ 64) × (0 < threadAt s j .server .used → q .count < 8)
+    pub change-requires : e .kind ≡ 1 → 1 < threadAt s j .parameters .policy → Schedulable (threadAt s j .parameters) (threadAt s j .server) (q .count)
     change-requires z = block-requires s (v .sound) j change-small q eq
 
     module _ (c : Change) (ec : c ≡ changeOf (e .kind) (s .now) (e .parameters) (threadAt s j) (record { server = threadAt s j .server; pending = q })) where

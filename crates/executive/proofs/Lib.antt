@@ -6,6 +6,5 @@ pub mod AnswerLaws
 pub mod StepLaws
 pub mod OpenLaws
 pub mod KeptLaws
-pub mod ShiftLaws
 pub mod ChangeLaws
 pub mod DoneLaws

@@ -1,5 +1,5 @@
 -- What the functions that an event calls require, from the soundness of the state.
-use Prim.Native.Nat.{ℕ, _+_, _≤_, _<_, _^_}
+use Prim.Native.Nat.{ℕ, _≤_, _<_}
 use mathlib.Core.Bool.{Bool, true, false}
 use mathlib.Core.Path.{_≡_, refl, ap, subst⁻¹}
 use lib.ListN.{length}
@@ -7,6 +7,7 @@ use lib.Dec.{ltb}
 use native.Mathlib.Omega.{arith}
 use Rattle.base.proofs.TestLaws.{tests, false-true}
 use Rattle.account.specs.declared.Pending.{Pending}
+use Rattle.account.specs.Rules.{Schedulable}
 use Rattle.account.specs.Sound.{runsUpper}
 use Rattle.account_laws.proofs.SoundLaws.{AccountSound, upper-room}
 use Rattle.state.specs.declared.Thread.{Thread}
@@ -28,7 +29,7 @@ used-room start now t q true e m v l = go (isBlocked t) e
 used-room start now t q false e m v l = absurd (omega (tests, (rw e at v) .numbers))
 
 schedule-fits : (start now : ℕ) (b : Bool) (t : Thread) (q : Pending) → now ≤ 1000000000000000 → ThreadSound start now now b t q → 1 < t .parameters .policy
-    → (t .server .activation + t .parameters .period < 2 ^ 64) × (0 < t .server .used → q .count < 8)
+    → Schedulable (t .parameters) (t .server) (q .count)
 schedule-fits start now b t q m (absent n e f) l = absurd (omega (arith, ap (λ (x : Thread). x .parameters .policy) e))
 schedule-fits start now b t q m (fifo n z g k v f) l = absurd (omega arith)
 schedule-fits start now b t q m (rr n z g k v f) l = absurd (omega arith)
@@ -46,7 +47,7 @@ module _ (s : State) (a : soundState s ≡ true) where
   amounts-length = omega (tests, sound .sizes)
 
   pub block-requires : (i : ℕ) → i < 32 → (q : Pending) → q ≡ pendingAt s i → 1 < threadAt s i .parameters .policy
-      → (threadAt s i .server .activation + threadAt s i .parameters .period < 2 ^ 64) × (0 < threadAt s i .server .used → q .count < 8)
+      → Schedulable (threadAt s i .parameters) (threadAt s i .server) (q .count)
   block-requires i m q e l =
-      subst⁻¹ (λ (x : Pending). (threadAt s i .server .activation + threadAt s i .parameters .period < 2 ^ 64) × (0 < threadAt s i .server .used → x .count < 8)) e
+      subst⁻¹ (λ (x : Pending). Schedulable (threadAt s i .parameters) (threadAt s i .server) (x .count)) e
       (schedule-fits (s .header .start) (s .now) (ltb i (s .header .n)) (threadAt s i) (pendingAt s i) (omega (tests, sound .sizes)) (sound .each i m) l)

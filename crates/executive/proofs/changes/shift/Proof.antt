@@ -1,7 +1,7 @@
 -- `executive::changes::shift` meets its contract.
 use mathlib.Core.Path.{ap, _∙_}
 use Rattle.ready.specs.Word.{occupancy}
-use Rattle.executive.proofs.ShiftLaws.{shift-none, shift-joins, shift-leaves, shift-moves}
+use Rattle.executive.proofs.ChangeLaws.{shift-none, shift-joins, shift-leaves, shift-moves}
 use Rattle.executive.proofs.changes.shift.Statement.{statement}
 use Rattle.executive.proofs.changes.shift.Tie as tie
 
