@@ -5,6 +5,7 @@ use mathlib.Core.List.{[], _∷_}
 use lib.Dec.{ltb, leb, eqb}
 use Rattle.records.specs.declared.Event.{Event}
 use Rattle.records.specs.Ranges.{mostReplenishments, lastTime, longestStep, inRange, allZero, noParameters}
+use Rattle.base.specs.Status.{wrongKind, wrongThread, wrongParameters, nothingRuns, notBlocked}
 use Rattle.base.specs.Refusals.{firstRefusal}
 use Rattle.passing.specs.Sequence.{Machine}
 use Rattle.state.specs.declared.State.{State}
@@ -31,7 +32,7 @@ badParameters e =
 
 -- 01 Status 5 to 7 and 15: 4, 5, 6 in this order
 unfoldable pub fieldStatusOf : ℕ → Event → ℕ
-fieldStatusOf n e = firstRefusal ((badKind e, 4) ∷ (badThread n e, 5) ∷ (badParameters e, 6) ∷ [])
+fieldStatusOf n e = firstRefusal ((badKind e, wrongKind) ∷ (badThread n e, wrongThread) ∷ (badParameters e, wrongParameters) ∷ [])
 
 abbrev pub fieldStatus : State → Event → ℕ
 fieldStatus s e = fieldStatusOf (s .header .n) e
@@ -39,7 +40,7 @@ fieldStatus s e = fieldStatusOf (s .header .n) e
 -- 01 Status 8 and 9: block or yield and nothing runs; wake of a thread that isn't blocked
 unfoldable pub stateStatusOf : ℕ → Bool → Bool → ℕ
 stateStatusOf kind idle blocked =
-    firstRefusal ((cond (eqb kind 1) idle (eqb kind 2 && idle), 7) ∷ (eqb kind 3 && not blocked, 8) ∷ [])
+    firstRefusal ((cond (eqb kind 1) idle (eqb kind 2 && idle), nothingRuns) ∷ (eqb kind 3 && not blocked, notBlocked) ∷ [])
 
 abbrev pub stateStatus : State → Event → ℕ
 stateStatus s e = stateStatusOf (e .kind) (idles s) (isBlocked (threadAt s (e .thread)))

@@ -6,6 +6,7 @@ use lib.ListN.{getD, replicate}
 use lib.Dec.{ltb, leb, eqb}
 use Rattle.records.specs.declared.Parameters.{Parameters}
 use Rattle.records.specs.declared.Header.{Header}
+use Rattle.base.specs.Status.{wrongThread, pastLastTime, wrongParameters}
 use Rattle.base.specs.Tests.{below}
 use Rattle.records.specs.Ranges.{mostThreads, mostReplenishments, lastTime, inRange, noParameters}
 use Rattle.ready.specs.Lists.{appended}
@@ -46,9 +47,9 @@ enteredBelow (suc n) table s = entered n (getD table n noParameters) (enteredBel
 unfoldable pub openStatus : Header → List Parameters → ℕ
 openStatus header table =
     firstRefusal
-    ((not (leb 1 (header .n) && leb (header .n) mostThreads), 5)
-    ∷ (ltb lastTime (header .start), 3)
-    ∷ (not (below (header .n) (λ i. inRange mostReplenishments (getD table i noParameters) && leb (getD table i noParameters .flag) 1)), 6)
+    ((not (leb 1 (header .n) && leb (header .n) mostThreads), wrongThread)
+    ∷ (ltb lastTime (header .start), pastLastTime)
+    ∷ (not (below (header .n) (λ i. inRange mostReplenishments (getD table i noParameters) && leb (getD table i noParameters .flag) 1)), wrongParameters)
     ∷ [])
 
 -- 01 Events 7, 01 Status 20: the answer to an opening

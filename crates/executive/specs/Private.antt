@@ -6,6 +6,7 @@ use lib.Dec.{ltb, eqb}
 use Rattle.records.specs.declared.Event.{Event}
 use Rattle.records.specs.Ranges.{lastTime, longestStep}
 use Rattle.ready.specs.Word.{highestOf}
+use Rattle.base.specs.Status.{pastLastTime, beforeNow, stepTooLong}
 use Rattle.base.specs.Refusals.{firstRefusal, given}
 use Rattle.state.specs.declared.State.{State}
 use Rattle.ticks.specs.Running.{running, next}
@@ -22,7 +23,7 @@ unread status s = record { status = status; running = 255; next = 0; state = s }
 
 -- 01 Status 2 to 4 and 15: by the time, 3, 1 or 2
 unfoldable pub timeStatus : ℕ → ℕ → ℕ
-timeStatus now time = firstRefusal ((ltb lastTime time, 3) ∷ (ltb time now, 1) ∷ (ltb (now + longestStep) time, 2) ∷ [])
+timeStatus now time = firstRefusal ((ltb lastTime time, pastLastTime) ∷ (ltb time now, beforeNow) ∷ (ltb (now + longestStep) time, stepTooLong) ∷ [])
 
 -- 01 Status 15: what is judged without the state: 4, 5 or 6 by the fields, then by the time
 abbrev pub earlyStatus : ℕ → ℕ → Event → ℕ

@@ -47,13 +47,13 @@ fn time_status(now: u64, time: u64) -> u8
     ensures { λ r. ⌜ r ≡ timeStatus now time ⌝ }
 {
     if LAST_TIME < time {
-        return 3;
+        return base::PAST_LAST_TIME;
     }
     if time < now {
-        return 1;
+        return base::BEFORE_NOW;
     }
     if LONGEST_STEP < time - now {
-        return 2;
+        return base::STEP_TOO_LONG;
     }
     0
 }

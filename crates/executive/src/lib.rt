@@ -102,7 +102,7 @@ fn answer_event(mut s: State, e: Event, known: bool) -> Answer
         &s.lists,
     ) {
         return Answer {
-            status: 9,
+            status: base::NOT_SOUND,
             running: 255,
             next: 0,
             state: s,

@@ -104,18 +104,18 @@ pub(super) fn open_status(header: Header, table: [Parameters; THREADS]) -> u8
     ensures { λ r. ⌜ r ≡ openStatus header table ⌝ }
 {
     if header.n < 1 {
-        return 5;
+        return base::WRONG_THREAD;
     }
     if (THREADS as u32) < header.n {
-        return 5;
+        return base::WRONG_THREAD;
     }
     if LAST_TIME < header.start {
-        return 3;
+        return base::PAST_LAST_TIME;
     }
     if table_holds(header.n as usize, table) {
         return 0;
     }
-    6
+    base::WRONG_PARAMETERS
 }
 
 // A thread opened without the start flag is blocked.

@@ -168,14 +168,14 @@ pub(super) fn field_status(n: u32, e: Event) -> u8
     ensures { λ r. ⌜ r ≡ fieldStatusOf n e ⌝ }
 {
     if 4 < e.kind {
-        return 4;
+        return base::WRONG_KIND;
     }
     if bad_thread(n, e.kind, e.thread) {
-        return 5;
+        return base::WRONG_THREAD;
     }
     let p = e.parameters;
     if bad_parameters(e.kind, p) {
-        return 6;
+        return base::WRONG_PARAMETERS;
     }
     0
 }
@@ -185,13 +185,13 @@ pub(super) fn state_status(kind: u8, idle: bool, blocked: bool) -> u8
     ensures { λ r. ⌜ r ≡ stateStatusOf kind idle blocked ⌝ }
 {
     if kind == 1 {
-        return when(idle, 7);
+        return when(idle, base::NOTHING_RUNS);
     }
     if kind == 2 {
-        return when(idle, 7);
+        return when(idle, base::NOTHING_RUNS);
     }
     if kind == 3 {
-        return when(!blocked, 8);
+        return when(!blocked, base::NOT_BLOCKED);
     }
     0
 }
