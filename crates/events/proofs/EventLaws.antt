@@ -29,10 +29,10 @@ use Rattle.moments.proofs.ChangeLaws.{withBound, changed}
 use Rattle.moments.proofs.ChargeLaws.{runs}
 use Rattle.moments.proofs.FireLaws.{bounds-same}
 use Rattle.events.specs.declared.Change.{Change}
-use Rattle.events.specs.Events.{renewed, newAccount, changeOf, shifted, withChange, concerned, eventChange, happened}
+use Rattle.events.specs.Events.{newAccount, changeOf, shifted, withChange, concerned, eventChange, happened}
+use Rattle.state.specs.Updates.{renewed, withServer}
 use Rattle.events.specs.Answers.{fieldStatusOf, stateStatusOf, fieldStatus, stateStatus}
 use Rattle.events.proofs.FitLaws.{Fits, block-fits, quantum-fits, wake-fits, set-fits}
-use Rattle.state.specs.Updates.{withServer}
 
 -- a list's priority, or 0 for a place with no thread
 abbrev InLists : Bool → ℕ → Type 0

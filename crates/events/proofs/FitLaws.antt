@@ -23,8 +23,8 @@ use Rattle.state.specs.State.{isBlocked, assigned}
 use Rattle.state.proofs.SoundLaws.{ThreadSound, range-out, fifo-out, rr-out, sporadic-out}
 use Rattle.state.proofs.SoundLaws.ThreadSound.{absent, fifo, rr, sporadic}
 use Rattle.ticks.proofs.RunLaws.{by-zero, by-one, by-two}
-use Rattle.events.specs.Events.{fullQuantum, ifSporadic, noAccount, renewed, newAccount}
-use Rattle.state.specs.Updates.{withBlocked, withServer}
+use Rattle.events.specs.Events.{ifSporadic, noAccount, newAccount}
+use Rattle.state.specs.Updates.{fullQuantum, renewed, withBlocked, withServer}
 
 -- a thread and an account that fit a place of a sound state
 pub record Fits (start now : ℕ) (b : Bool) (t : Thread) (a : Account) : Type 0 where

@@ -30,12 +30,12 @@ use Rattle.state.proofs.SoundLaws.{noPending, ThreadSound, Sound, state-in}
 use Rattle.state.proofs.SoundLaws.ThreadSound.{absent, fifo, rr, sporadic}
 use Rattle.moments.proofs.ChangeLaws.{withBound, totals-set, changed-at}
 use Rattle.moments.proofs.FireLaws.{bounds-same}
-use Rattle.events.specs.Events.{renewed, newAccount}
+use Rattle.events.specs.Events.{newAccount}
+use Rattle.state.specs.Updates.{renewed, withHeader, withLists, withAccount, withBlocked, withServer}
 use Rattle.events.specs.Answers.{executive}
 use Rattle.events.specs.Opening.{emptyState, noState, withoutFlag, entered, enteredBelow, openStatus, opening}
 use Rattle.events.proofs.FitLaws.{Fits, set-fits}
 use Rattle.events.proofs.EventLaws.{and-both}
-use Rattle.state.specs.Updates.{withHeader, withLists, withAccount, withBlocked, withServer}
 
 -- the same state with another number of threads
 abbrev withN : ℕ → State → State

@@ -15,13 +15,9 @@ use Rattle.ready.specs.Lists.{appended, removed, moved}
 use Rattle.state.specs.declared.Thread.{Thread}
 use Rattle.state.specs.declared.State.{State}
 use Rattle.state.specs.State.{noServer, threadAt, accountAt, placeOf}
-use Rattle.state.specs.Updates.{withLists, withLeft, withAccount, withBlocked, withServer, withParameters}
+use Rattle.state.specs.Updates.{withLists, withAccount, withBlocked, withServer, fullQuantum, renewed}
 use Rattle.ticks.specs.Running.{head}
 use Rattle.events.specs.declared.Change.{Change}
-
--- 01 Events 4 and 5: an RR thread gets a full quantum
-abbrev pub fullQuantum : Thread → Thread
-fullQuantum t = withLeft (byPolicy (t .parameters .policy) (t .left) (t .parameters .budget) (t .left)) t
 
 -- what a rule does to a sporadic thread's account; any other has none to change
 abbrev pub ifSporadic : Thread → Account → Account → Account
@@ -31,10 +27,7 @@ ifSporadic t new a = byPolicy (t .parameters .policy) a a new
 abbrev pub noAccount : Account
 noAccount = record { server = noServer; pending = record { count = 0; dues = replicate entries 0; amounts = replicate entries 0 } }
 
--- 01 Events 6: everything anew with the parameters p; the thread stays blocked or runnable and keeps its run time
-abbrev pub renewed : Parameters → Thread → Thread
-renewed p t = withParameters p (withLeft (byPolicy (p .policy) 0 (p .budget) 0) t)
-
+-- 01 Events 6: the account that goes with new parameters
 abbrev pub newAccount : ℕ → Parameters → Account
 newAccount now p = byPolicy (p .policy) noAccount noAccount (freshAccount now p)
 

@@ -15,9 +15,9 @@ use Rattle.rows.specs.Rows.{allSlots}
 use Rattle.passing.specs.Sequence.{Answer, accepted}
 use Rattle.state.specs.declared.State.{State}
 use Rattle.state.specs.State.{noThread, threadAt}
-use Rattle.events.specs.Events.{renewed, newAccount}
+use Rattle.events.specs.Events.{newAccount}
+use Rattle.state.specs.Updates.{renewed, withLists, withAccount, withBlocked, stateOf}
 use Rattle.events.specs.Answers.{executive}
-use Rattle.state.specs.Updates.{withLists, withAccount, withBlocked, stateOf}
 
 -- a state of so many threads, none of them there yet, at the start time
 abbrev pub emptyState : Header → State

@@ -23,7 +23,8 @@ use Rattle.base.proofs.RefusalLaws.{passed}
 use Rattle.state.specs.declared.Thread.{Thread}
 use Rattle.state.specs.declared.State.{State}
 use Rattle.state.specs.State.{noThread, threadAt, place}
-use Rattle.events.specs.Events.{renewed, newAccount}
+use Rattle.events.specs.Events.{newAccount}
+use Rattle.state.specs.Updates.{renewed, withLists, withAccount, withBlocked, stateOf}
 use Rattle.events.specs.Opening.{emptyState, noState, withoutFlag, entered, enteredBelow, openStatus, opening}
 use Rattle.events.proofs.EventLaws.{and-both}
 use Rattle.events.proofs.OpeningLaws.{Entered, unplaced, below-entered, opened-sound}
@@ -35,7 +36,6 @@ use Rattle.events.specs.Answers.{executive}
 use Rattle.executive.specs.declared.Answer.{Answer}
 use Rattle.executive.specs.Answer.{returned, openAnswer}
 use Rattle.executive.specs.Private.{answered, unread}
-use Rattle.state.specs.Updates.{withLists, withAccount, withBlocked, stateOf}
 
 pub empty-is : (header : Header) (l : List ℕ) → l ≡ replicate 1056 0
     → (stateOf header (header .start) 0 0 (replicate 32 noThread) (replicate 32 0) (replicate 256 0) (replicate 256 0) l)

@@ -65,21 +65,21 @@ pub(super) fn change_of(e: Event, t: Thread, a: Account) -> Change
     ensures { λ r. ⌜ r ≡ changeOf (e .kind) (e .time) (e .parameters) t a ⌝ }
 {
     if e.kind == 1 {
-        let u = parts::with_blocked(1, t);
+        let u = state::with_blocked(t, 1);
         let b = parts::after_block(e.time, t, a);
         return change_to(t, a, u, b);
     }
     if e.kind == 2 {
-        let u = parts::full_quantum(t);
+        let u = state::full_quantum(t);
         return change_to(t, a, u, a);
     }
     if e.kind == 3 {
-        let u = parts::with_blocked(0, parts::full_quantum(t));
+        let u = state::with_blocked(state::full_quantum(t), 0);
         let b = parts::after_wake(e.time, t, a);
         return change_to(t, a, u, b);
     }
     let p = e.parameters;
-    let u = parts::renew(p, t);
+    let u = state::renew(p, t);
     let b = parts::new_account(e.time, p);
     change_to(t, a, u, b)
 }

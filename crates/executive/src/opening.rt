@@ -137,8 +137,8 @@ fn enter(s: State, k: u8, p: Parameters) -> State
     let i = base::wide(k);
     let q = without_flag(p);
     let none = s.threads[i];
-    let t = parts::with_blocked(starts_blocked(p.flag), none);
-    let u = parts::renew(q, t);
+    let t = state::with_blocked(none, starts_blocked(p.flag));
+    let u = state::renew(q, t);
     let b = parts::new_account(s.now, q);
     let mut r = changes::put(s, i, u, b);
     if p.flag == 0 {

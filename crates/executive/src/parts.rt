@@ -3,11 +3,10 @@ ghost use mathlib.Core.Path.{_≡_};
 ghost use mathlib.Core.Bool.{true, false, cond, not, _&&_};
 ghost use lib.Dec.{leb, eqb};
 ghost use Prim.Native.Nat.{_<_};
-ghost use Rattle.records.specs.Ranges.{byPolicy, mostThreads, mostReplenishments, inRange, allZero};
+ghost use Rattle.records.specs.Ranges.{mostThreads, mostReplenishments, inRange, allZero};
 ghost use Rattle.account.specs.Rules.{Schedulable, blocking, waking};
-ghost use Rattle.events.specs.Events.{fullQuantum, ifSporadic, renewed, newAccount};
+ghost use Rattle.events.specs.Events.{ifSporadic, newAccount};
 ghost use Rattle.events.specs.Answers.{fieldStatusOf, stateStatusOf};
-ghost use Rattle.state.specs.Updates.{withBlocked};
 use account::Account;
 use account::ENTRIES;
 use account::Pending;
@@ -25,73 +24,6 @@ pub(super) fn index(x: u8) -> usize
         return x as usize;
     }
     0
-}
-
-// A thread that is blocked (1) or runnable (0).
-pub(super) fn with_blocked(b: u8, t: Thread) -> Thread
-    ensures { λ r. ⌜ r ≡ withBlocked b t ⌝ }
-{
-    let p = t.parameters;
-    let v = t.server;
-    Thread {
-        parameters: p,
-        blocked: b,
-        total: t.total,
-        left: t.left,
-        server: v,
-    }
-}
-
-// What is left of a thread's quantum once it is full again; only RR has one.
-fn refilled(p: Parameters, left: u64) -> u64
-    ensures { λ r. ⌜ r ≡ byPolicy (p .policy) left (p .budget) left ⌝ }
-{
-    if p.policy == 1 {
-        return p.budget;
-    }
-    left
-}
-
-// A thread with a full quantum; nothing else changes, the activation time included.
-pub(super) fn full_quantum(t: Thread) -> Thread
-    ensures { λ r. ⌜ r ≡ fullQuantum t ⌝ }
-{
-    let p = t.parameters;
-    Thread {
-        parameters: p,
-        blocked: t.blocked,
-        total: t.total,
-        left: refilled(p, t.left),
-        server: Server {
-            capacity: t.server.capacity,
-            used: t.server.used,
-            activation: t.server.activation,
-        },
-    }
-}
-
-// The quantum that a thread starts with.
-fn quantum_of(p: Parameters) -> u64
-    ensures { λ r. ⌜ r ≡ byPolicy (p .policy) 0 (p .budget) 0 ⌝ }
-{
-    if p.policy == 1 {
-        return p.budget;
-    }
-    0
-}
-
-// A thread with new parameters.
-pub(super) fn renew(p: Parameters, t: Thread) -> Thread
-    ensures { λ r. ⌜ r ≡ renewed p t ⌝ }
-{
-    let v = t.server;
-    Thread {
-        parameters: p,
-        blocked: t.blocked,
-        total: t.total,
-        left: quantum_of(p),
-        server: v,
-    }
 }
 
 // The account that goes with new parameters.

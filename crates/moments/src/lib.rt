@@ -44,15 +44,8 @@ fn limit_first(limit: u64, due: u64) -> bool
 fn with_full_quantum(t: Thread) -> Thread
     ensures { λ r. ⌜ r ≡ withLeft (t .parameters .budget) t ⌝ }
 {
-    let q = t.parameters;
-    let v = t.server;
-    Thread {
-        parameters: q,
-        blocked: t.blocked,
-        total: t.total,
-        left: q.budget,
-        server: v,
-    }
+    let p = t.parameters;
+    state::with_left(t, p.budget)
 }
 
 // Thread i goes where an account's rule sends it; the answer is the word of the lists as they then are.

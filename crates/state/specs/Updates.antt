@@ -4,6 +4,7 @@ use mathlib.Core.List.{List}
 use lib.ListN.{set}
 use Rattle.records.specs.declared.Parameters.{Parameters}
 use Rattle.records.specs.declared.Header.{Header}
+use Rattle.records.specs.Ranges.{byPolicy}
 use Rattle.sporadic.specs.declared.Server.{Server}
 use Rattle.account.specs.declared.Account.{Account}
 use Rattle.ready.specs.Word.{occupancy}
@@ -29,6 +30,18 @@ withLeft n t = threadOf (t .parameters) (t .blocked) (t .total) n (t .server)
 
 abbrev pub withServer : Server → Thread → Thread
 withServer v t = threadOf (t .parameters) (t .blocked) (t .total) (t .left) v
+
+-- another run time, quantum left and server
+abbrev pub withRun : ℕ → ℕ → Server → Thread → Thread
+withRun total left v t = threadOf (t .parameters) (t .blocked) total left v
+
+-- 01 Events 4 and 5: an RR thread gets a full quantum
+abbrev pub fullQuantum : Thread → Thread
+fullQuantum t = withLeft (byPolicy (t .parameters .policy) (t .left) (t .parameters .budget) (t .left)) t
+
+-- 01 Events 6: everything anew with the parameters p; the thread stays blocked or runnable and keeps its run time
+abbrev pub renewed : Parameters → Thread → Thread
+renewed p t = withParameters p (withLeft (byPolicy (p .policy) 0 (p .budget) 0) t)
 
 abbrev pub stateOf : Header → ℕ → ℕ → ℕ → List Thread → List ℕ → List ℕ → List ℕ → List ℕ → State
 stateOf header now idle word threads counts dues amounts lists =

@@ -3,7 +3,8 @@ ghost use mathlib.Core.Path.{_≡_};
 ghost use lib.ListN.{length};
 ghost use Rattle.state.specs.State.{placeOf};
 ghost use Rattle.state.specs.Sound.{soundState};
-ghost use Rattle.state.specs.Updates.{withServer, stateOf};
+ghost use Rattle.records.specs.Ranges.{byPolicy};
+ghost use Rattle.state.specs.Updates.{threadOf, withBlocked, withLeft, withServer, withRun, fullQuantum, renewed, stateOf};
 use records::Header;
 use records::Parameters;
 use sporadic::Server;
@@ -36,18 +37,82 @@ pub struct State {
     pub lists: [u8; 1056],
 }
 
+// A thread of these parts: no other function lists its fields.
+fn thread_of(p: Parameters, blocked: u8, total: u64, left: u64, v: Server) -> Thread
+    ensures { λ r. ⌜ r ≡ threadOf p blocked total left v ⌝ }
+{
+    Thread {
+        parameters: p,
+        blocked: blocked,
+        total: total,
+        left: left,
+        server: v,
+    }
+}
+
+// A thread that is blocked (1) or runnable (0).
+pub fn with_blocked(t: Thread, blocked: u8) -> Thread
+    ensures { λ r. ⌜ r ≡ withBlocked blocked t ⌝ }
+{
+    let p = t.parameters;
+    let v = t.server;
+    thread_of(p, blocked, t.total, t.left, v)
+}
+
+// A thread with another quantum left.
+pub fn with_left(t: Thread, left: u64) -> Thread
+    ensures { λ r. ⌜ r ≡ withLeft left t ⌝ }
+{
+    let p = t.parameters;
+    let v = t.server;
+    thread_of(p, t.blocked, t.total, left, v)
+}
+
 // A thread with another server.
 pub fn with_server(t: Thread, v: Server) -> Thread
     ensures { λ r. ⌜ r ≡ withServer v t ⌝ }
 {
-    let q = t.parameters;
-    Thread {
-        parameters: q,
-        blocked: t.blocked,
-        total: t.total,
-        left: t.left,
-        server: v,
+    let p = t.parameters;
+    thread_of(p, t.blocked, t.total, t.left, v)
+}
+
+// A thread with another run time, quantum left and server.
+pub fn with_run(t: Thread, total: u64, left: u64, v: Server) -> Thread
+    ensures { λ r. ⌜ r ≡ withRun total left v t ⌝ }
+{
+    let p = t.parameters;
+    thread_of(p, t.blocked, total, left, v)
+}
+
+// What an RR thread's quantum is when it is full, and x for any other thread, which has none.
+fn quantum_or(p: Parameters, x: u64) -> u64
+    ensures { λ r. ⌜ r ≡ byPolicy (p .policy) x (p .budget) x ⌝ }
+{
+    if p.policy == 1 {
+        return p.budget;
     }
+    x
+}
+
+// A thread with a full quantum; nothing else changes, the activation time included.
+pub fn full_quantum(t: Thread) -> Thread
+    ensures { λ r. ⌜ r ≡ fullQuantum t ⌝ }
+{
+    let p = t.parameters;
+    let v = Server {
+        capacity: t.server.capacity,
+        used: t.server.used,
+        activation: t.server.activation,
+    };
+    thread_of(p, t.blocked, t.total, quantum_or(p, t.left), v)
+}
+
+// A thread with new parameters; its account is renewed apart.
+pub fn renew(p: Parameters, t: Thread) -> Thread
+    ensures { λ r. ⌜ r ≡ renewed p t ⌝ }
+{
+    let v = t.server;
+    thread_of(p, t.blocked, t.total, quantum_or(p, 0), v)
 }
 
 // The list in which a thread stands that has `count` replenishments pending, 0 for none.

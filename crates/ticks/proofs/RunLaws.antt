@@ -10,6 +10,7 @@ use Rattle.base.proofs.TestLaws.{cond-true, cond-false}
 use Rattle.sporadic.specs.declared.Server.{Server}
 use Rattle.sporadic.specs.Rules.{charged}
 use Rattle.state.specs.declared.Thread.{Thread}
+use Rattle.state.specs.Updates.{withRun}
 use Rattle.ticks.specs.Running.{ran, limitOf}
 
 pub by-zero : {A : Type 0} (c : ℕ) (x y z : A) → c ≡ 0 → byPolicy c x y z ≡ x
@@ -41,25 +42,20 @@ charged-none v = λ x. record { capacity = m (v .capacity) x; used = n (v .used)
     n : (a : ℕ) → a + 0 ≡ a
     n a = omega arith
 
--- a thread with another run time, quantum left and server
-abbrev pub withRun : Thread → ℕ → ℕ → Server → Thread
-withRun t n l v = record { parameters = t .parameters; blocked = t .blocked; total = n; left = l; server = v }
-
 module _ (p k : ℕ) (t : Thread) where
   ran-is : (l : ℕ) (v : Server) → byPolicy (t .parameters .policy) (t .left) (t .left - k) (t .left) ≡ l
       → byPolicy (t .parameters .policy) (t .server) (t .server) (cond (eqb p (t .parameters .priority)) (charged k (t .server)) (t .server)) ≡ v
-      → withRun t (t .total + k) l v ≡ ran p k t
-  ran-is l v a b =
-      λ x. record { parameters = t .parameters; blocked = t .blocked; total = t .total + k; left = sym a x; server = sym b x }
+      → withRun (t .total + k) l v t ≡ ran p k t
+  ran-is l v a b = λ x. withRun (t .total + k) (sym a x) (sym b x) t
 
-  pub ran-fifo : t .parameters .policy ≡ 0 → withRun t (t .total + k) (t .left) (t .server) ≡ ran p k t
+  pub ran-fifo : t .parameters .policy ≡ 0 → withRun (t .total + k) (t .left) (t .server) t ≡ ran p k t
   ran-fifo z = ran-is (t .left) (t .server) (by-zero (t .parameters .policy) _ _ _ z) (by-zero (t .parameters .policy) _ _ _ z)
 
-  pub ran-rr : t .parameters .policy ≡ 1 → withRun t (t .total + k) (t .left - k) (t .server) ≡ ran p k t
+  pub ran-rr : t .parameters .policy ≡ 1 → withRun (t .total + k) (t .left - k) (t .server) t ≡ ran p k t
   ran-rr z = ran-is (t .left - k) (t .server) (by-one (t .parameters .policy) _ _ _ z) (by-one (t .parameters .policy) _ _ _ z)
 
   module _ (d : t .parameters .policy ≡ 0 → ⊥) (e : t .parameters .policy ≡ 1 → ⊥) where
-    pub ran-sporadic : (v : Server) → v ≡ charged (cond (eqb p (t .parameters .priority)) k 0) (t .server) → withRun t (t .total + k) (t .left) v ≡ ran p k t
+    pub ran-sporadic : (v : Server) → v ≡ charged (cond (eqb p (t .parameters .priority)) k 0) (t .server) → withRun (t .total + k) (t .left) v t ≡ ran p k t
     ran-sporadic v c =
         ran-is (t .left) v (by-more (t .parameters .policy) _ _ _ d e)
         (by-more (t .parameters .policy) _ _ _ d e ∙ sym (c ∙ by (eqb p (t .parameters .priority))))

@@ -12,7 +12,7 @@ use Rattle.ready.specs.Lists.{headOf}
 use Rattle.ready.specs.Word.{highestOf}
 use Rattle.state.specs.declared.Thread.{Thread}
 use Rattle.state.specs.declared.State.{State}
-use Rattle.state.specs.Updates.{threadOf, withTime, withAllThreads}
+use Rattle.state.specs.Updates.{withRun, withTime, withAllThreads}
 use Rattle.state.specs.State.{threadAt}
 use Rattle.ticks.specs.declared.Due.{Due}
 
@@ -36,10 +36,10 @@ running s = cond (idles s) 255 (head s)
 -- thread, and moved from capacity to U where p is the upper priority of a sporadic one; at low nothing is charged
 abbrev pub ran : ℕ → ℕ → Thread → Thread
 ran p k t =
-    threadOf (t .parameters) (t .blocked) (t .total + k)
-    (byPolicy (t .parameters .policy) (t .left) (t .left - k) (t .left))
+    withRun (t .total + k) (byPolicy (t .parameters .policy) (t .left) (t .left - k) (t .left))
     (byPolicy (t .parameters .policy) (t .server) (t .server)
     (cond (eqb p (t .parameters .priority)) (charged k (t .server)) (t .server)))
+    t
 
 -- 01 Passing 3: k ticks go by for the running thread, or idle
 abbrev pub charge : ℕ → State → State

@@ -168,31 +168,13 @@ fn ran_thread(p: u8, k: u64, t: Thread) -> Thread
     let v = t.server;
     let total = t.total + k;
     if q.policy == 0 {
-        return Thread {
-            parameters: q,
-            blocked: t.blocked,
-            total: total,
-            left: t.left,
-            server: v,
-        };
+        return state::with_run(t, total, t.left, v);
     }
     if q.policy == 1 {
-        return Thread {
-            parameters: q,
-            blocked: t.blocked,
-            total: total,
-            left: t.left - k,
-            server: v,
-        };
+        return state::with_run(t, total, t.left - k, v);
     }
     let w = sporadic::charge(v, charged_ticks(p, q.priority, k));
-    Thread {
-        parameters: q,
-        blocked: t.blocked,
-        total: total,
-        left: t.left,
-        server: w,
-    }
+    state::with_run(t, total, t.left, w)
 }
 
 // The same, unchanged where p is 0 because nothing runs.

@@ -14,14 +14,26 @@ use Rattle.ticks.proofs.ran_thread.Tie as tie
 add-total : tie.Need-add-total
 add-total c = search needs
 
-returns : tie.Need-returns
-returns c = let a = c .before .before .before .before .before .args in ran-fifo (a .p) (a .k) (a .t) (c .if1 .taken)
+with-run-requires : tie.Need-with-run-requires
+with-run-requires c κs = search needs
 
-sub-t9 : tie.Need-sub-t9
-sub-t9 c = c .before .before .before .before .before .before .before .before .pre .2 (c .before .if2 .taken)
+returns : tie.Need-returns
+returns c =
+    let b = c .before in
+    let a = b .before .before .before .before .before .args in
+    c .with-run .ensures ∙ ran-fifo (a .p) (a .k) (a .t) (b .if1 .taken)
+
+sub-with-run : tie.Need-sub-with-run
+sub-with-run c = let b = c .before in b .before .before .before .before .before .before .before .pre .2 (b .if2 .taken)
+
+with-run-requires-2 : tie.Need-with-run-requires-2
+with-run-requires-2 c κs = search needs
 
 returns-2 : tie.Need-returns-2
-returns-2 c = let a = c .before .before .before .before .before .before .before .before .args in ran-rr (a .p) (a .k) (a .t) (c .before .if2 .taken)
+returns-2 c =
+    let b = c .before .before in
+    let a = b .before .before .before .before .before .before .before .args in
+    c .with-run2 .ensures ∙ ran-rr (a .p) (a .k) (a .t) (b .if2 .taken)
 
 charged-ticks-requires : tie.Need-charged-ticks-requires
 charged-ticks-requires c κs = tt
@@ -35,11 +47,29 @@ charge-requires c κs =
     (λ e. (b .pre .3 (omega (arith, c .before .before .before .if1 .left, c .before .if2 .left)) (eqb-true _ _ e), b .pre .1))
     (λ e. (omega arith, omega (arith, b .pre .1))))
 
+with-run-requires-3 : tie.Need-with-run-requires-3
+with-run-requires-3 c κs = search needs
+
 returns-3 : tie.Need-returns-3
 returns-3 c =
-    let a = c .before .before .before .before .before .before .before .before .before .args in
-    ran-sporadic (a .p) (a .k) (a .t) (c .before .before .before .before .if1 .left) (c .before .before .if2 .left) (c .charge .result)
-    (c .charge .ensures ∙ ap (λ (n : ℕ). charged n (a .t .server)) (c .before .charged-ticks .ensures))
+    let g = c .before in
+    let e = g .before .before in
+    let a = e .before .before .before .before .before .before .before .args in
+    c .with-run3 .ensures
+    ∙ ran-sporadic (a .p) (a .k) (a .t) (e .before .before .if1 .left) (e .if2 .left) (g .charge .result)
+    (g .charge .ensures ∙ ap (λ (n : ℕ). charged n (a .t .server)) (g .before .charged-ticks .ensures))
 
 pub ran-thread-spec : {M : Type 1} → statement M
-ran-thread-spec = tie.close (tie.spec add-total returns sub-t9 returns-2 charged-ticks-requires charge-requires returns-3)
+ran-thread-spec =
+    tie.close
+    (tie.spec
+    add-total
+    with-run-requires
+    returns
+    sub-with-run
+    with-run-requires-2
+    returns-2
+    charged-ticks-requires
+    charge-requires
+    with-run-requires-3
+    returns-3)
