@@ -20,6 +20,7 @@ ghost use Rattle.moments.specs.Moments.{passed};
 ghost use Rattle.state.specs.Updates.{withLeft};
 use account::ENTRIES;
 use base::wide;
+use ready::LIST_BYTES;
 use records::Parameters;
 use rows::SLOTS;
 use sporadic::Effect;
@@ -49,7 +50,7 @@ fn with_full_quantum(t: Thread) -> Thread
 }
 
 // Thread i goes where an account's rule sends it; the answer is the word of the lists as they then are.
-fn send(lists: &mut [u8; 1056], word: u32, i: u8, p: Parameters, x: Place) -> u32
+fn send(lists: &mut [u8; LIST_BYTES], word: u32, i: u8, p: Parameters, x: Place) -> u32
     requires { ⌜ (x ≡ Stays → word ≡ occupancy (now lists))
         × (x ≡ Low → Movable word i (p .priority) (p .low) (now lists))
         × (x ≡ LowThenUpper → Movable word i (p .priority) (p .low) (now lists)

@@ -1,18 +1,26 @@
 -- 01 State 3: for each priority 1 to 32 an ordered list of thread numbers, head first.
--- All lists stand in one array of 32 rows of 33 numbers: a list's length, its threads in order, and zeros.
+-- All lists stand in one array, a row for each: a list's length, its threads in order, and zeros.
 use mathlib.Core.List.{List, [], _∷_, _++_}
 use mathlib.Core.Bool.{cond}
 use Prim.Native.Nat.{ℕ, _+_, _-_, _*_}
 use lib.ListN.{length, take, drop, getD, replicate}
 use lib.Dec.{eqb}
+use Rattle.records.specs.Ranges.{mostThreads, highestPriority}
+
+-- the numbers of a row: a list may hold every thread; and those of all rows
+abbrev pub rowBytes : ℕ
+rowBytes = 1 + mostThreads
+
+abbrev pub listBytes : ℕ
+listBytes = highestPriority * rowBytes
 
 -- where the row of list p starts in the array
 abbrev pub start : ℕ → ℕ
-start p = (p - 1) * 33
+start p = (p - 1) * rowBytes
 
 -- the row of list p
 abbrev pub rowAt : ℕ → List ℕ → List ℕ
-rowAt p l = take 33 (drop (start p) l)
+rowAt p l = take rowBytes (drop (start p) l)
 
 -- a row's parts: the length, the threads, and the places that are not in use
 abbrev pub size : List ℕ → ℕ
@@ -26,7 +34,7 @@ unused row = drop (size row) (drop 1 row)
 
 -- the row that holds a list; 01 State 17: places that are not in use hold 0
 abbrev pub rowOf : List ℕ → List ℕ
-rowOf xs = length xs ∷ (xs ++ replicate (32 - length xs) 0)
+rowOf xs = length xs ∷ (xs ++ replicate (mostThreads - length xs) 0)
 
 -- 01 State 3: the threads of list p, in order
 abbrev pub threads : ℕ → List ℕ → List ℕ
@@ -34,7 +42,7 @@ threads p l = members (rowAt p l)
 
 -- the array with another list p
 unfoldable pub withThreads : ℕ → List ℕ → List ℕ → List ℕ
-withThreads p xs l = take (start p) l ++ (rowOf xs ++ drop (start p + 33) l)
+withThreads p xs l = take (start p) l ++ (rowOf xs ++ drop (start p + rowBytes) l)
 
 -- thread i at place k of a list, place 0 being the head; the threads from k on move one place towards the tail
 abbrev pub insertAt : ℕ → ℕ → List ℕ → List ℕ

@@ -5,28 +5,29 @@ use mathlib.Core.List.{List}
 use Prim.Native.Nat.{ℕ, _≤_, _<_}
 use lib.ListN.{length}
 use Rattle.base.specs.Tests.{all, zeros}
-use Rattle.ready.specs.Lists.{rowAt, unused, threads, occurs, removed}
+use Rattle.records.specs.Ranges.{mostThreads, highestPriority}
+use Rattle.ready.specs.Lists.{listBytes, rowAt, unused, threads, occurs, removed}
 use Rattle.ready.specs.Word.{sizeAt, occupancy}
 
 -- list p holds a thread
 pub record Held (p : ℕ) (l : List ℕ) : Type 0 where
   pub low : 1 ≤ p
-  pub high : p ≤ 32
+  pub high : p ≤ highestPriority
   pub some : 0 < sizeAt l p
 
 -- list p is in order, and the word agrees with the lists
 pub record Formed (word p : ℕ) (l : List ℕ) : Type 0 where
-  pub array : length l ≡ 1056
+  pub array : length l ≡ listBytes
   pub low : 1 ≤ p
-  pub high : p ≤ 32
-  pub short : sizeAt l p ≤ 32
+  pub high : p ≤ highestPriority
+  pub short : sizeAt l p ≤ highestPriority
   pub rest : all (zeros (unused (rowAt p l))) ≡ true
   pub agrees : word ≡ occupancy l
 
 -- a thread can join list p
 pub record Joinable (word p : ℕ) (l : List ℕ) : Type 0 where
   pub formed : Formed word p l
-  pub room : sizeAt l p < 32
+  pub room : sizeAt l p < mostThreads
 
 -- thread i can leave list p
 pub record Leavable (word p i : ℕ) (l : List ℕ) : Type 0 where

@@ -6,29 +6,30 @@ use Prim.Native.Nat.{ℕ, suc}
 use lib.ListN.{length}
 use lib.Dec.{ltb, leb, eqb}
 use Rattle.base.specs.Tests.{all, below, zeros}
-use Rattle.ready.specs.Lists.{rowAt, size, members, unused, occurs}
+use Rattle.records.specs.Ranges.{mostThreads, highestPriority}
+use Rattle.ready.specs.Lists.{listBytes, rowAt, size, members, unused, occurs}
 use Rattle.ready.specs.Word.{occupancy}
 
--- 01 Numbers 1: thread numbers are below 32
+-- 01 Numbers 1: thread numbers are below the most threads
 abbrev pub small : List ℕ → List Bool
 small [] = []
-small (x ∷ xs) = ltb x 32 ∷ small xs
+small (x ∷ xs) = ltb x mostThreads ∷ small xs
 
 -- 01 State 7, for the row of list p: the threads whose place is p stand there once, and no other does.
 -- 01 State 17: places past the length hold 0.
 unfoldable pub soundRow : (ℕ → ℕ) → ℕ → List ℕ → Bool
 soundRow place p row =
     all
-    (leb (size row) 32
+    (leb (size row) mostThreads
     ∷ all (zeros (unused row))
     ∷ all (small (members row))
-    ∷ below 32 (λ i. eqb (occurs i (members row)) (cond (eqb (place i) p) 1 0))
+    ∷ below mostThreads (λ i. eqb (occurs i (members row)) (cond (eqb (place i) p) 1 0))
     ∷ [])
 
 -- 01 State 7: every thread has a list or none, and every list is sound
 unfoldable pub soundRows : (ℕ → ℕ) → List ℕ → Bool
-soundRows place l = all (below 32 (λ i. leb (place i) 32) ∷ below 32 (λ k. soundRow place (suc k) (rowAt (suc k) l)) ∷ [])
+soundRows place l = all (below mostThreads (λ i. leb (place i) highestPriority) ∷ below highestPriority (λ k. soundRow place (suc k) (rowAt (suc k) l)) ∷ [])
 
 -- 01 State 7 and 8: the lists are sound and the word agrees
 unfoldable pub soundLists : (ℕ → ℕ) → ℕ → List ℕ → Bool
-soundLists place word l = all (eqb (length l) 1056 ∷ soundRows place l ∷ eqb word (occupancy l) ∷ [])
+soundLists place word l = all (eqb (length l) listBytes ∷ soundRows place l ∷ eqb word (occupancy l) ∷ [])

@@ -6,6 +6,7 @@ use Prim.Native.Nat.{ℕ, suc, _+_, _-_}
 use lib.ListN.{take, drop, set, getD}
 use lib.Dec.{leb, eqb}
 use Rattle.base.specs.Tests.{all, zeros}
+use Rattle.records.specs.Ranges.{mostThreads}
 use Rattle.ready.specs.Lists.{size, members, unused}
 
 -- how many numbers stand before the first i
@@ -34,5 +35,5 @@ pub record Struck (p : ℕ) (xs left left′ : List ℕ) (ok : Bool) : Type 0 wh
 
 -- the same for the threads of a row, with the tests of the row itself
 pub record RowStruck (p : ℕ) (row left left′ : List ℕ) (ok : Bool) : Type 0 where
-  pub test : ok ≡ all (leb (size row) 32 ∷ all (zeros (unused row)) ∷ strikes p (members row) left ∷ [])
+  pub test : ok ≡ all (leb (size row) mostThreads ∷ all (zeros (unused row)) ∷ strikes p (members row) left ∷ [])
   pub rest : ok ≡ true → left′ ≡ struck (members row) left

@@ -5,6 +5,7 @@ use mathlib.Core.Path.{_≡_}
 use Prim.Native.Nat.{ℕ, zero, suc, _+_, _-_, _^_, _/_, _%_, _≤_}
 use lib.Count.{leadingZeros}
 use lib.Dec.{eqb}
+use Rattle.records.specs.Ranges.{highestPriority}
 use Rattle.ready.specs.Lists.{rowAt, size}
 
 -- 01 State 4: of the lists 1 to n, whose lengths are given: bit p - 1 for each list p that holds a thread
@@ -18,11 +19,11 @@ sizeAt l p = size (rowAt p l)
 
 -- the occupancy word of the array
 unfoldable pub occupancy : List ℕ → ℕ
-occupancy l = wordOf 32 (sizeAt l)
+occupancy l = wordOf highestPriority (sizeAt l)
 
 -- 01 State 4: bit p - 1 of the word is set exactly when list p holds a thread
 abbrev pub BitsAreLists : Type 0
-BitsAreLists = (l : List ℕ) (p : ℕ) → 1 ≤ p → p ≤ 32 → occupancy l / 2 ^ (p - 1) % 2 ≡ cond (eqb (sizeAt l p) 0) 0 1
+BitsAreLists = (l : List ℕ) (p : ℕ) → 1 ≤ p → p ≤ highestPriority → occupancy l / 2 ^ (p - 1) % 2 ≡ cond (eqb (sizeAt l p) 0) 0 1
 
 -- 01 State 4: the highest list as the word's leading zeros give it
 abbrev pub highestOf : ℕ → ℕ

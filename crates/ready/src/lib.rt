@@ -1,39 +1,51 @@
 // The ordered lists of the priorities 1 to 32 and the occupancy word.
 //
-// All lists stand in one array of 32 rows of 33 bytes. The row of list p starts at (p - 1) * 33: the list's length, then
+// All lists stand in one array, a row for each. The row of list p starts at (p - 1) * ROW_BYTES: the list's length, then
 // its thread numbers from head to tail, then zeros. The word has bit p - 1 set exactly when list p holds a thread.
 ghost use mathlib.Core.Path.{_≡_};
 ghost use Prim.Native.Nat.{_+_, _-_, _^_, _≤_, _<_};
 ghost use lib.ListN.{length, getD, take, drop, replicate};
 ghost use Rattle.base.specs.Tests.{all, zeros};
-ghost use Rattle.ready.specs.Lists.{start, headOf, appended, removed, moved};
+ghost use Rattle.records.specs.Ranges.{mostThreads, highestPriority};
+ghost use Rattle.ready.specs.Lists.{rowBytes, listBytes, start, headOf, appended, removed, moved};
 ghost use Rattle.ready.specs.Word.{occupancy, highestOf};
 ghost use Rattle.ready.specs.Rules.{Held, Joinable, Leavable, Movable};
 ghost use Rattle.ready.specs.Sound.{soundLists, soundRows};
 ghost use Rattle.ready.specs.Steps.{indexOf, closed, Struck, RowStruck};
 use base::wide;
 
+// The highest priority, and so the number of the lists.
+pub const HIGHEST: u8 = 32;
+
+// How many threads there are at most; a list may hold them all.
+const THREADS: usize = 32;
+
+// The bytes of a list's row, and of all rows.
+pub const ROW_BYTES: usize = 1 + THREADS;
+
+pub const LIST_BYTES: usize = HIGHEST as usize * ROW_BYTES;
+
 // Where the row of list p starts.
 fn row_start(p: u8) -> usize
-    requires { ⌜ (1 ≤ p) × (p ≤ 32) ⌝ }
+    requires { ⌜ (1 ≤ p) × (p ≤ highestPriority) ⌝ }
     ensures { λ r. ⌜ r ≡ start p ⌝ }
 {
-    (wide(p) - 1) * 33
+    (wide(p) - 1) * ROW_BYTES
 }
 
 // The bit of list p.
 fn bit(p: u8) -> u32
-    requires { ⌜ (1 ≤ p) × (p ≤ 32) ⌝ }
+    requires { ⌜ (1 ≤ p) × (p ≤ highestPriority) ⌝ }
     ensures { λ r. ⌜ r ≡ 2 ^ (p - 1) ⌝ }
 {
     1u32 << ((p - 1) as u32)
 }
 
 // Lists that hold no thread; their word is 0.
-pub fn empty() -> [u8; 1056]
-    ensures { λ r. ⌜ r ≡ replicate 1056 0 ⌝ }
+pub fn empty() -> [u8; LIST_BYTES]
+    ensures { λ r. ⌜ r ≡ replicate listBytes 0 ⌝ }
 {
-    [0u8; 1056]
+    [0u8; LIST_BYTES]
 }
 
 // The priority of the highest list that holds a thread, 0 where none does.
@@ -44,7 +56,7 @@ pub fn highest(word: u32) -> u8
 }
 
 // The thread at the head of list p.
-pub fn head(lists: &[u8; 1056], p: u8) -> u8
+pub fn head(lists: &[u8; LIST_BYTES], p: u8) -> u8
     requires { ⌜ Held p (now lists) ⌝ }
     ensures { λ r. ⌜ r ≡ headOf p (now (lists .entry)) ⌝ }
 {
@@ -53,7 +65,7 @@ pub fn head(lists: &[u8; 1056], p: u8) -> u8
 }
 
 // Thread i becomes the tail of list p; the answer is the word of the lists as they then are.
-pub fn append(lists: &mut [u8; 1056], word: u32, p: u8, i: u8) -> u32
+pub fn append(lists: &mut [u8; LIST_BYTES], word: u32, p: u8, i: u8) -> u32
     requires { ⌜ Joinable word p (now lists) ⌝ }
     ensures { λ r. ⌜ (now (lists .exit) ≡ appended p i (now (lists .entry))) × (r ≡ occupancy (appended p i (now (lists .entry)))) ⌝ }
 {
@@ -68,8 +80,8 @@ pub fn append(lists: &mut [u8; 1056], word: u32, p: u8, i: u8) -> u32
 }
 
 // How many of the n numbers from `at` on stand before the first i.
-fn index_of(lists: &[u8; 1056], at: usize, n: usize, i: u8) -> usize
-    requires { ⌜ (at + n ≤ 1056) × (length (now lists) ≡ 1056) ⌝ }
+fn index_of(lists: &[u8; LIST_BYTES], at: usize, n: usize, i: u8) -> usize
+    requires { ⌜ (at + n ≤ listBytes) × (length (now lists) ≡ listBytes) ⌝ }
     ensures { λ r. ⌜ r ≡ indexOf i (take n (drop at (now (lists .entry)))) ⌝ }
 {
     let mut j: usize = 0;
@@ -83,8 +95,8 @@ fn index_of(lists: &[u8; 1056], at: usize, n: usize, i: u8) -> usize
 }
 
 // The n numbers from `at` on without the first: the others move up, and the last place is 0.
-fn close(lists: &mut [u8; 1056], at: usize, n: usize)
-    requires { ⌜ (0 < n) × (at + n ≤ 1056) × (length (now lists) ≡ 1056) ⌝ }
+fn close(lists: &mut [u8; LIST_BYTES], at: usize, n: usize)
+    requires { ⌜ (0 < n) × (at + n ≤ listBytes) × (length (now lists) ≡ listBytes) ⌝ }
     ensures { λ _. ⌜ now (lists .exit) ≡ closed (now (lists .entry)) at n ⌝ }
 {
     // a bound that the loop doesn't compute: compiled as one move of the whole run
@@ -99,7 +111,7 @@ fn close(lists: &mut [u8; 1056], at: usize, n: usize)
 }
 
 // Thread i leaves list p, and the others keep their order; the answer is the word of the lists as they then are.
-pub fn remove(lists: &mut [u8; 1056], word: u32, p: u8, i: u8) -> u32
+pub fn remove(lists: &mut [u8; LIST_BYTES], word: u32, p: u8, i: u8) -> u32
     requires { ⌜ Leavable word p i (now lists) ⌝ }
     ensures { λ r. ⌜ (now (lists .exit) ≡ removed p i (now (lists .entry))) × (r ≡ occupancy (removed p i (now (lists .entry)))) ⌝ }
 {
@@ -116,7 +128,7 @@ pub fn remove(lists: &mut [u8; 1056], word: u32, p: u8, i: u8) -> u32
 }
 
 // Thread i leaves list `from` and becomes the tail of list `to`, the same or another.
-pub fn move_to_tail(lists: &mut [u8; 1056], word: u32, i: u8, from: u8, to: u8) -> u32
+pub fn move_to_tail(lists: &mut [u8; LIST_BYTES], word: u32, i: u8, from: u8, to: u8) -> u32
     requires { ⌜ Movable word i from to (now lists) ⌝ }
     ensures { λ r. ⌜ (now (lists .exit) ≡ moved i from to (now (lists .entry))) × (r ≡ occupancy (moved i from to (now (lists .entry)))) ⌝ }
 {
@@ -139,15 +151,15 @@ fn all_zero(s: &[u8]) -> bool
 }
 
 // Strikes the threads of s off `left`, where each must still have the place p.
-fn strike(s: &[u8], p: u8, left: &mut [u8; 32]) -> bool
-    requires { ⌜ (1 ≤ p) × (length (now left) ≡ 32) ⌝ }
+fn strike(s: &[u8], p: u8, left: &mut [u8; THREADS]) -> bool
+    requires { ⌜ (1 ≤ p) × (length (now left) ≡ mostThreads) ⌝ }
     ensures { λ r. ⌜ Struck p (now (s .entry)) (now (left .entry)) (now (left .exit)) r ⌝ }
 {
     let mut j: usize = 0;
     while j < s.len() {
         let i = wide(s[j]);
         j = j + 1;
-        if 32 <= i {
+        if THREADS <= i {
             return false;
         }
         if left[i] != p {
@@ -159,8 +171,8 @@ fn strike(s: &[u8], p: u8, left: &mut [u8; 32]) -> bool
 }
 
 // Whether the row of list p is in order and its threads, each with the place p, could be struck off `left`.
-fn strike_row(row: &[u8], p: u8, left: &mut [u8; 32]) -> bool
-    requires { ⌜ (1 ≤ p) × (length (now row) ≡ 33) × (length (now left) ≡ 32) ⌝ }
+fn strike_row(row: &[u8], p: u8, left: &mut [u8; THREADS]) -> bool
+    requires { ⌜ (1 ≤ p) × (length (now row) ≡ rowBytes) × (length (now left) ≡ mostThreads) ⌝ }
     ensures { λ r. ⌜ RowStruck p (now (row .entry)) (now (left .entry)) (now (left .exit)) r ⌝ }
 {
     let n = wide(row[0]);
@@ -168,7 +180,7 @@ fn strike_row(row: &[u8], p: u8, left: &mut [u8; 32]) -> bool
     if n < 1 {
         return all_zero(&row[1..]);
     }
-    if 32 < n {
+    if THREADS < n {
         return false;
     }
     if !all_zero(&row[n + 1..]) {
@@ -179,30 +191,30 @@ fn strike_row(row: &[u8], p: u8, left: &mut [u8; 32]) -> bool
 
 // Whether every list holds the threads that have its priority as their place, each once, and no other.
 // One pass over the rows strikes each thread off a copy of the places; at the end no place is left.
-fn sound_rows(lists: &[u8], places: [u8; 32]) -> bool
-    requires { ⌜ length (now lists) ≡ 1056 ⌝ }
+fn sound_rows(lists: &[u8], places: [u8; THREADS]) -> bool
+    requires { ⌜ length (now lists) ≡ listBytes ⌝ }
     ensures { λ r. ⌜ r ≡ soundRows (λ i. getD places i 0) (now (lists .entry)) ⌝ }
 {
     let mut left = places;
     let mut p: u8 = 0;
     let mut at: usize = 0;
-    while p < 32 {
+    while p < HIGHEST {
         p = p + 1;
-        if !strike_row(&lists[at..at + 33], p, &mut left) {
+        if !strike_row(&lists[at..at + ROW_BYTES], p, &mut left) {
             return false;
         }
-        at = at + 33;
+        at = at + ROW_BYTES;
     }
     all_zero(&left)
 }
 
 // The occupancy word of the lists.
-fn word_of(lists: &[u8; 1056]) -> u32
+fn word_of(lists: &[u8; LIST_BYTES]) -> u32
     ensures { λ r. ⌜ r ≡ occupancy (now (lists .entry)) ⌝ }
 {
     let mut word: u32 = 0;
     let mut level: u8 = 0;
-    while level < 32 {
+    while level < HIGHEST {
         level = level + 1;
         if lists[row_start(level)] != 0 {
             word = word + bit(level);
@@ -213,7 +225,7 @@ fn word_of(lists: &[u8; 1056]) -> u32
 
 // Whether lists and word are sound for the places: thread i must stand once in the list of the priority places[i], and in
 // no other; at 0 it must stand in none. Any contents are decided.
-pub fn sound(lists: &[u8; 1056], word: u32, places: [u8; 32]) -> bool
+pub fn sound(lists: &[u8; LIST_BYTES], word: u32, places: [u8; THREADS]) -> bool
     ensures { λ r. ⌜ r ≡ soundLists (λ i. getD places i 0) word (now (lists .entry)) ⌝ }
 {
     if !sound_rows(lists, places) {

@@ -1,9 +1,10 @@
 // Runs the stored cases over the lists and the word, and prints what each leaves. The expected output is the file stdout.
 use libc::STDOUT_FILENO;
+use ready::LIST_BYTES;
 
 // Lists, word and the place of every thread: the priority in whose list it must stand, 0 for none.
 struct Case {
-    lists: [u8; 1056],
+    lists: [u8; LIST_BYTES],
     word: u32,
     places: [u8; 32],
 }
@@ -135,7 +136,7 @@ fn show_row(row: &[u8], n: u8) {
 }
 
 // The length byte and the thread numbers of list p, as they stand in the array; nothing for a p that is no priority.
-fn show_list(lists: [u8; 1056], p: u8) {
+fn show_list(lists: [u8; LIST_BYTES], p: u8) {
     if p < 1 {
         return;
     }
@@ -189,7 +190,7 @@ fn show(name: &[u8], c: Case, p: u8, q: u8) {
 // The case with another byte in its array.
 fn with_byte(c: Case, at: usize, x: u8) -> Case {
     let mut d = c;
-    if at < 1056 {
+    if at < LIST_BYTES {
         d.lists[at] = x;
     }
     d

@@ -10,6 +10,7 @@ use Rattle.sporadic.specs.declared.Server.{Server}
 use Rattle.account.specs.declared.Pending.{Pending}
 use Rattle.account.specs.Sound.{soundAt}
 use Rattle.ready.specs.Sound.{soundLists}
+use Rattle.rows.specs.Rows.{allSlots}
 use Rattle.state.specs.declared.Thread.{Thread}
 use Rattle.state.specs.declared.State.{State}
 use Rattle.state.specs.State.{isBlocked, threadAt, pendingAt, place}
@@ -75,11 +76,11 @@ soundTests s =
     ∷ leb (s .header .n) mostThreads
     ∷ leb (s .header .start) (s .now)
     ∷ leb (s .now) lastTime
-    ∷ eqb (length (s .threads)) 32
-    ∷ eqb (length (s .counts)) 32
-    ∷ eqb (length (s .dues)) 256
-    ∷ eqb (length (s .amounts)) 256
-    ∷ below 32 (threadTest s)
+    ∷ eqb (length (s .threads)) mostThreads
+    ∷ eqb (length (s .counts)) mostThreads
+    ∷ eqb (length (s .dues)) allSlots
+    ∷ eqb (length (s .amounts)) allSlots
+    ∷ below mostThreads (threadTest s)
     ∷ soundLists (place s) (s .word) (s .lists)
     ∷ eqb (s .header .start + totals (s .threads) + s .idle) (s .now)
     ∷ []

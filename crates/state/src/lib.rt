@@ -3,13 +3,22 @@ ghost use mathlib.Core.Path.{_≡_};
 ghost use lib.ListN.{length};
 ghost use Rattle.state.specs.State.{placeOf};
 ghost use Rattle.state.specs.Sound.{soundState};
-ghost use Rattle.records.specs.Ranges.{byPolicy};
+ghost use Rattle.records.specs.Ranges.{byPolicy, mostThreads};
+ghost use Rattle.rows.specs.Rows.{allSlots};
 ghost use Rattle.state.specs.Updates.{threadOf, withBlocked, withLeft, withServer, withRun, fullQuantum, renewed, stateOf};
+use ready::LIST_BYTES;
 use records::Header;
 use records::Parameters;
+use rows::SLOTS;
+use rows::THREADS;
 use sporadic::Server;
 
 mod tests; // tests.rt: what soundness asks of one thread
+
+// The most threads, as N is compared with it, and the last time.
+const MOST: u32 = THREADS as u32;
+
+const LAST_TIME: u64 = 1000000000000000;
 
 // One thread: its parameters, whether it is blocked (1) or runnable (0), its total run time, the quantum left of an RR thread, and the
 // capacity, U and activation time of a sporadic one.
@@ -22,7 +31,7 @@ pub struct Thread {
     pub server: Server,
 }
 
-// The pending replenishments of thread i are counts[i] and the eight places of dues and amounts from i * 8 on (crate `rows`).
+// The pending replenishments of thread i are counts[i] and its slots of dues and amounts (crate `rows`).
 // The lists of the priorities are the array of the crate `ready`.
 #[repr(C)]
 pub struct State {
@@ -30,11 +39,11 @@ pub struct State {
     pub now: u64,
     pub idle: u64,
     pub word: u32,
-    pub threads: [Thread; 32],
-    pub counts: [u8; 32],
-    pub dues: [u64; 256],
-    pub amounts: [u64; 256],
-    pub lists: [u8; 1056],
+    pub threads: [Thread; THREADS],
+    pub counts: [u8; THREADS],
+    pub dues: [u64; SLOTS],
+    pub amounts: [u64; SLOTS],
+    pub lists: [u8; LIST_BYTES],
 }
 
 // A thread of these parts: no other function lists its fields.
@@ -139,32 +148,32 @@ pub fn sound_parts<'a>(
     time: u64,
     idle: u64,
     word: u32,
-    threads: [Thread; 32],
-    counts: &'a [u8; 32],
-    dues: &'a [u64; 256],
-    amounts: &'a [u64; 256],
-    lists: &'a [u8; 1056],
+    threads: [Thread; THREADS],
+    counts: &'a [u8; THREADS],
+    dues: &'a [u64; SLOTS],
+    amounts: &'a [u64; SLOTS],
+    lists: &'a [u8; LIST_BYTES],
 ) -> bool
-    requires { ⌜ (length (now counts) ≡ 32) × (length (now dues) ≡ 256) × (length (now amounts) ≡ 256) ⌝ }
+    requires { ⌜ (length (now counts) ≡ mostThreads) × (length (now dues) ≡ allSlots) × (length (now amounts) ≡ allSlots) ⌝ }
     ensures { λ r. ⌜ r ≡ soundState (stateOf header time idle word threads (now (counts .entry)) (now (dues .entry)) (now (amounts .entry)) (now (lists .entry))) ⌝ }
 {
     if header.n < 1 {
         return false;
     }
-    if 32 < header.n {
+    if MOST < header.n {
         return false;
     }
     if time < header.start {
         return false;
     }
-    if 1000000000000000 < time {
+    if LAST_TIME < time {
         return false;
     }
     let n = header.n as usize;
     let mut left = time - header.start;
-    let mut places = [0u8; 32];
+    let mut places = [0u8; THREADS];
     let mut i: usize = 0;
-    while i < 32 {
+    while i < THREADS {
         let t = threads[i];
         let present = i < n;
         if !tests::thread_holds(present, header.start, time, t, counts, dues, amounts, i) {

@@ -10,6 +10,7 @@ ghost use Rattle.ready.specs.Rules.{Held};
 ghost use Rattle.passing.specs.Time.{dueBy};
 ghost use Rattle.ticks.specs.Running.{ran, earlier, limitOf, sooner, nextDue, NextAfter, NoneBefore};
 use account::ENTRIES;
+use ready::LIST_BYTES;
 use rows::SLOTS;
 use rows::THREADS;
 use state::Thread;
@@ -202,7 +203,7 @@ pub fn charged_idle(p: u8, k: u64, idle: u64) -> u64
 }
 
 // The thread at the head of list p, 0 where p is 0.
-pub fn head_at(lists: &[u8; 1056], p: u8) -> u8
+pub fn head_at(lists: &[u8; LIST_BYTES], p: u8) -> u8
     requires { ⌜ (eqb p 0 ≡ false → Held p (now lists)) ⌝ }
     ensures { λ r. ⌜ r ≡ cond (eqb p 0) 0 (headOf p (now (lists .entry))) ⌝ }
 {
@@ -213,7 +214,7 @@ pub fn head_at(lists: &[u8; 1056], p: u8) -> u8
 }
 
 // The running thread, 255 for none.
-pub fn running(word: u32, lists: &[u8; 1056]) -> u8
+pub fn running(word: u32, lists: &[u8; LIST_BYTES]) -> u8
     requires { ⌜ (eqb (highestOf word) 0 ≡ false → Held (highestOf word) (now lists)) ⌝ }
     ensures { λ r. ⌜ r ≡ cond (eqb (highestOf word) 0) 255 (headOf (highestOf word) (now (lists .entry))) ⌝ }
 {
