@@ -9,7 +9,7 @@ use Rattle.records.specs.declared.Header.{Header}
 use Rattle.base.specs.Status.{wrongThread, pastLastTime, wrongParameters}
 use Rattle.base.specs.Tests.{below}
 use Rattle.records.specs.Ranges.{mostThreads, mostReplenishments, lastTime, inRange, noParameters}
-use Rattle.ready.specs.Lists.{appended}
+use Rattle.ready.specs.Lists.{listBytes, appended}
 use Rattle.base.specs.Refusals.{firstRefusal}
 use Rattle.rows.specs.Rows.{allSlots}
 use Rattle.passing.specs.Sequence.{Answer, accepted}
@@ -22,7 +22,7 @@ use Rattle.events.specs.Answers.{executive}
 -- a state of so many threads, none of them there yet, at the start time
 abbrev pub emptyState : Header → State
 emptyState header =
-    stateOf header (header .start) 0 0 (replicate mostThreads noThread) (replicate mostThreads 0) (replicate allSlots 0) (replicate allSlots 0) (replicate 1056 0)
+    stateOf header (header .start) 0 0 (replicate mostThreads noThread) (replicate mostThreads 0) (replicate allSlots 0) (replicate allSlots 0) (replicate listBytes 0)
 
 -- 01 Status 20: a state of no threads and zeros
 abbrev pub noState : State

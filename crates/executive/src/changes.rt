@@ -14,6 +14,7 @@ ghost use Rattle.events.specs.Events.{becomes, changeOf, shifted};
 use super::parts;
 use account::Account;
 use events::Change;
+use ready::LIST_BYTES;
 use records::Event;
 use state::State;
 use state::Thread;
@@ -86,7 +87,7 @@ pub(super) fn change_of(e: Event, t: Thread, a: Account) -> Change
 
 // Thread k leaves list `from` and becomes the tail of list `to`, 0 for none; the answer is the word of the lists as they
 // then are.
-pub(super) fn shift(lists: &mut [u8; 1056], word: u32, k: u8, from: u8, to: u8) -> u32
+pub(super) fn shift(lists: &mut [u8; LIST_BYTES], word: u32, k: u8, from: u8, to: u8) -> u32
     requires { ⌜ (from ≡ 0 → to ≡ 0 → word ≡ occupancy (now lists))
         × (from ≡ 0 → (to ≡ 0 → ⊥) → Joinable word to (now lists))
         × ((from ≡ 0 → ⊥) → to ≡ 0 → Leavable word from k (now lists))

@@ -8,6 +8,7 @@ ghost use Rattle.state.specs.Sound.{soundState};
 ghost use Rattle.executive.specs.Answer.{eventAnswer, openAnswer};
 ghost use Rattle.state.specs.Updates.{stateOf};
 use account::Account;
+use ready::LIST_BYTES;
 use records::Event;
 use records::Header;
 use records::Parameters;
@@ -59,7 +60,7 @@ fn known_sound<'a>(
     counts: &'a [u8; THREADS],
     dues: &'a [u64; SLOTS],
     amounts: &'a [u64; SLOTS],
-    lists: &'a [u8; 1056],
+    lists: &'a [u8; LIST_BYTES],
 ) -> bool
     requires { ⌜ (known ≡ true → soundState (stateOf header time idle word threads (now counts) (now dues) (now amounts) (now lists)) ≡ true)
         × (length (now counts) ≡ mostThreads) × (length (now dues) ≡ allSlots) × (length (now amounts) ≡ allSlots) ⌝ }
