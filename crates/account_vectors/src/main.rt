@@ -16,7 +16,7 @@ fn number(n: u64) {
 
 fn print_entries(q: Pending) {
     let mut i: usize = 0;
-    while i < 8 {
+    while i < account::ENTRIES {
         let k = i;
         i = i + 1;
         if (k as u64) < (q.count as u64) {
@@ -113,7 +113,7 @@ fn limit(p: Parameters, a: Account, blocked: bool, now: u64) -> Account {
     if 1000000000 < p.period {
         return a;
     }
-    if 8 <= a.pending.count {
+    if (account::ENTRIES as u8) <= a.pending.count {
         return a;
     }
     let o = account::limit_reached(p, a, blocked, now);
@@ -128,7 +128,7 @@ fn block(p: Parameters, a: Account, blocked: bool, now: u64) -> Account {
     if 1000000000 < p.period {
         return a;
     }
-    if 8 <= a.pending.count {
+    if (account::ENTRIES as u8) <= a.pending.count {
         return a;
     }
     let o = account::block(p, a, blocked, now);

@@ -1,5 +1,8 @@
 // A state with one field changed, by the number of the field.
+use ready::LIST_BYTES;
 use records::Parameters;
+use rows::SLOTS;
+use rows::THREADS;
 use state::State;
 use state::Thread;
 
@@ -61,7 +64,7 @@ fn of_clocks(s: State, what: u64, value: u64) -> State {
 
 // 32 and 33: place `at` of the dues and the amounts; thread i's places are 8 i to 8 i + 7.
 fn of_pending(s: State, what: u64, at: usize, value: u64) -> State {
-    if 256 <= at {
+    if SLOTS <= at {
         return s;
     }
     let mut r = s;
@@ -75,7 +78,7 @@ fn of_pending(s: State, what: u64, at: usize, value: u64) -> State {
 
 // 11 to 31: thread `at`, and its pending count.
 fn of_threads(s: State, what: u64, at: usize, value: u64) -> State {
-    if 32 <= at {
+    if THREADS <= at {
         return s;
     }
     let mut r = s;
@@ -101,7 +104,7 @@ pub(super) fn changed(s: State, what: u64, place: u64, value: u64) -> State {
         return of_pending(s, what, at, value);
     }
     let mut r = s;
-    if at < 1056 {
+    if at < LIST_BYTES {
         r.lists[at] = byte(value);
     }
     r

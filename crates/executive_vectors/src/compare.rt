@@ -1,5 +1,8 @@
 // Two states compared field by field.
+use ready::LIST_BYTES;
 use records::Parameters;
+use rows::SLOTS;
+use rows::THREADS;
 use state::State;
 use state::Thread;
 
@@ -25,9 +28,9 @@ fn same_thread(a: Thread, b: Thread) -> bool {
         & (a.server.activation == b.server.activation)
 }
 
-fn same_threads(a: [Thread; 32], b: [Thread; 32]) -> bool {
+fn same_threads(a: [Thread; THREADS], b: [Thread; THREADS]) -> bool {
     let mut i: usize = 0;
-    while i < 32 {
+    while i < THREADS {
         let t = a[i];
         let u = b[i];
         i = i + 1;
@@ -38,9 +41,9 @@ fn same_threads(a: [Thread; 32], b: [Thread; 32]) -> bool {
     true
 }
 
-fn same_numbers(a: [u64; 256], b: [u64; 256]) -> bool {
+fn same_numbers(a: [u64; SLOTS], b: [u64; SLOTS]) -> bool {
     let mut i: usize = 0;
-    while i < 256 {
+    while i < SLOTS {
         let k = i;
         i = i + 1;
         if a[k] != b[k] {
@@ -50,7 +53,7 @@ fn same_numbers(a: [u64; 256], b: [u64; 256]) -> bool {
     true
 }
 
-fn same_lists(a: [u8; 1056], b: [u8; 1056]) -> bool {
+fn same_lists(a: [u8; LIST_BYTES], b: [u8; LIST_BYTES]) -> bool {
     check::same(&a, &b)
 }
 

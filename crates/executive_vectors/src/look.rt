@@ -1,9 +1,12 @@
 // Four numbers of a state.
 use super::make::wide;
+use account::ENTRIES;
+use ready::LIST_BYTES;
+use rows::THREADS;
 use state::State;
 
 // The length of list p and its first three places.
-fn list(lists: [u8; 1056], p: usize) -> [u64; 4] {
+fn list(lists: [u8; LIST_BYTES], p: usize) -> [u64; 4] {
     if p < 1 {
         return [99; 4];
     }
@@ -25,12 +28,12 @@ pub(super) fn seen(s: State, op: u8, i: usize) -> [u64; 4] {
         let lists = s.lists;
         return list(lists, i);
     }
-    if 32 <= i {
+    if THREADS <= i {
         return [99; 4];
     }
     let t = s.threads[i];
     let v = t.server;
-    let k = i * 8;
+    let k = i * ENTRIES;
     match op {
         b'a' => [v.capacity, v.used, v.activation, wide(s.counts[i])],
         b'd' => [s.dues[k], s.amounts[k], s.dues[k + 1], s.amounts[k + 1]],

@@ -1,8 +1,11 @@
 // Parameters, events and the state of zeros.
 use super::change;
+use ready::LIST_BYTES;
 use records::Event;
 use records::Header;
 use records::Parameters;
+use rows::SLOTS;
+use rows::THREADS;
 use sporadic::Server;
 use state::State;
 use state::Thread;
@@ -79,10 +82,10 @@ pub(super) fn zeros() -> State {
         now: 0,
         idle: 0,
         word: 0,
-        threads: [nobody; 32],
-        counts: [0u8; 32],
-        dues: [0u64; 256],
-        amounts: [0u64; 256],
-        lists: [0u8; 1056],
+        threads: [nobody; THREADS],
+        counts: [0u8; THREADS],
+        dues: [0u64; SLOTS],
+        amounts: [0u64; SLOTS],
+        lists: [0u8; LIST_BYTES],
     }
 }

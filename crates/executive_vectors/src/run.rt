@@ -11,12 +11,13 @@ use executive::Answer;
 use records::Event;
 use records::Header;
 use records::Parameters;
+use rows::THREADS;
 use state::State;
 
 // The cases so far, the table of the next opening, the state that events are given to, and a state that is held beside it.
 pub struct Run {
     pub tally: Tally,
-    pub table: [Parameters; 32],
+    pub table: [Parameters; THREADS],
     pub state: State,
     pub held: State,
 }
@@ -31,7 +32,7 @@ pub(super) fn start() -> Run {
     let s = make::zeros();
     Run {
         tally: Tally { cases: 0, wrong: 0 },
-        table: [make::none(); 32],
+        table: [make::none(); THREADS],
         state: s,
         held: s,
     }
@@ -57,7 +58,7 @@ fn outcome_of(before: State, a: Answer, time: u64) -> Outcome {
 }
 
 // An opening of the table: start time and N. Where it is refused there are no threads and zeros.
-fn opened(table: [Parameters; 32], x: [u64; 20]) -> Outcome {
+fn opened(table: [Parameters; THREADS], x: [u64; 20]) -> Outcome {
     let start = x[0];
     let header = Header {
         n: change::word(x[1]),
@@ -97,7 +98,7 @@ fn judged(s: State) -> [u64; 4] {
 
 // Parameters at opening and by a set of thread 0.
 fn tried(s: State, p: Parameters) -> [u64; 4] {
-    let a = executive::open(Header { n: 1, start: 0 }, [p; 32]);
+    let a = executive::open(Header { n: 1, start: 0 }, [p; THREADS]);
     let f = fault(make::zeros(), a, 0);
     let mut q = p;
     q.flag = 0;
@@ -140,10 +141,10 @@ fn tested(r: Run, op: u8, x: [u64; 20]) -> Outcome {
     }
 }
 
-fn with_row(table: [Parameters; 32], x: [u64; 20]) -> [Parameters; 32] {
+fn with_row(table: [Parameters; THREADS], x: [u64; 20]) -> [Parameters; THREADS] {
     let mut t = table;
     let i = x[0] as usize;
-    if i < 32 {
+    if i < THREADS {
         t[i] = make::parameters(x, 1);
     }
     t
@@ -156,7 +157,7 @@ fn prepared(r: Run, op: u8, x: [u64; 20]) -> Run {
     let held = r.held;
     match op {
         b'f' => {
-            let t = [make::parameters(x, 0); 32];
+            let t = [make::parameters(x, 0); THREADS];
             q.table = t;
         }
         b'r' => {
