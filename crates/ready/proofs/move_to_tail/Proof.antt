@@ -4,13 +4,15 @@ use mathlib.Core.Path.{sym, ap, subst₂, _∙_}
 use mathlib.Core.List.{List}
 use Rattle.ready.specs.Lists.{appended}
 use Rattle.ready.specs.Word.{occupancy}
-use Rattle.ready.specs.Rules.{Joinable}
-use borrow.Author.Needs.{needs}
+use Rattle.ready.specs.Rules.{Joinable, Leavable, Movable}
 use Rattle.ready.proofs.move_to_tail.Statement.{statement}
 use Rattle.ready.proofs.move_to_tail.Tie as tie
 
+leaves : (word i from to : ℕ) (l : List ℕ) → Movable word i from to l → Leavable word from i l
+leaves word i from to l h = h .leaves
+
 remove-requires : tie.Need-remove-requires
-remove-requires c κs = search needs
+remove-requires c κs = let a = c .before .args in leaves (a .word) (a .i) (a .«from») (a .to) (a .lists .now) (c .before .pre)
 
 append-requires : tie.Need-append-requires
 append-requires c κs =

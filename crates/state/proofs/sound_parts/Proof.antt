@@ -9,6 +9,7 @@ use lib.ListN.{length, drop, getD, set, length-set}
 use lib.Dec.{eqb}
 use borrow.Author.Needs.{needs}
 use borrow.Author.Tests.{lt-leb, le-leb, eq-eqb, ne-eqb}
+use Rattle.records.specs.Ranges.{mostThreads, lastTime}
 use Rattle.base.specs.Tests.{below}
 use Rattle.base.proofs.TestLaws.{all-false}
 use Rattle.ready.specs.Sound.{soundLists}
@@ -94,7 +95,10 @@ returns c = sym (all-false (soundTests (parts (c .before .before))) 0 (lt-leb _ 
 
 returns-2 : tie.Need-returns-2 Inv-loop μ-loop
 unfolding soundState
-returns-2 c = sym (all-false (soundTests (parts (c .before .before .before .before))) 1 (lt-leb _ _ (c .if2 .taken)))
+returns-2 c =
+    let s = parts (c .before .before .before .before) in
+    let h : mostThreads < s .header .n = omega (arith, c .if2 .taken) in
+    sym (all-false (soundTests s) 1 (lt-leb (s .header .n) mostThreads h))
 
 returns-3 : tie.Need-returns-3 Inv-loop μ-loop
 unfolding soundState
@@ -102,7 +106,10 @@ returns-3 c = sym (all-false (soundTests (parts (c .before .before .before .befo
 
 returns-4 : tie.Need-returns-4 Inv-loop μ-loop
 unfolding soundState
-returns-4 c = sym (all-false (soundTests (parts (c .before .before .before .before .before .before .before))) 3 (lt-leb _ _ (c .if4 .taken)))
+returns-4 c =
+    let s = parts (c .before .before .before .before .before .before .before) in
+    let h : lastTime < s .now = omega (arith, c .if4 .taken) in
+    sym (all-false (soundTests s) 3 (lt-leb (s .now) lastTime h))
 
 cast-n : tie.Need-cast-n Inv-loop μ-loop
 cast-n c = omega arith
@@ -191,11 +198,13 @@ returns-8 c =
     let e = b .before .before .before in
     let d = e .before .before .before in
     let a = d .before .before .before .before .args in
+    let n : s .header .n ≤ mostThreads = omega (arith, d .if2 .left) in
+    let t : s .now ≤ lastTime = omega (arith, e .if4 .left) in
     by-last (soundTests s) (timed h g)
     (le-leb _ _ (d .before .before .if1 .left)
-    and le-leb _ _ (d .if2 .left)
+    and le-leb (s .header .n) mostThreads n
     and le-leb _ _ (e .before .if3 .left)
-    and le-leb _ _ (e .if4 .left)
+    and le-leb (s .now) lastTime t
     and eq-eqb (length (s .threads)) 32 (h .many)
     and eq-eqb (length (a .counts .now)) 32 (omega arith)
     and eq-eqb (length (a .dues .now)) 256 (omega arith)

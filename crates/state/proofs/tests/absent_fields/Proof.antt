@@ -1,5 +1,6 @@
 -- `state::tests::absent_fields` meets its contract.
-use mathlib.Core.Path.{refl, sym}
+use mathlib.Core.Path.{_≡_, refl, sym}
+use native.Mathlib.Omega.{arith}
 use borrow.Author.Needs.{needs}
 use borrow.Author.Tests.{eq-eqb, ne-eqb}
 use Rattle.base.proofs.TestLaws.{all-false}
@@ -15,7 +16,10 @@ returns : tie.Need-returns
 returns c = sym (all-false _ 0 (decided-false _ (c .before .all-zero .ensures) (c .if1 .taken)))
 
 returns-2 : tie.Need-returns-2
-returns-2 c = sym (all-false _ 1 (ne-eqb _ _ (c .if2 .taken)))
+returns-2 c =
+    let t = c .before .before .before .before .before .args .t in
+    let h : t .blocked ≡ 0 → ⊥ = λ z. omega (arith, c .if2 .taken) in
+    sym (all-false (absentFields t) 1 (ne-eqb (t .blocked) 0 h))
 
 returns-3 : tie.Need-returns-3
 returns-3 c = sym (all-false _ 2 (ne-eqb _ _ (c .if3 .taken)))
