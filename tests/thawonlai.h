@@ -38,6 +38,7 @@ struct found thawonlai_read(const uint8_t *file, size_t length);
 struct written thawonlai_write(struct header header, struct table table, struct events events, size_t count, uint8_t *out, size_t room);
 struct written thawonlai_copy(const uint8_t *file, size_t length, uint8_t *out, size_t room);
 struct listed thawonlai_listing(const uint8_t *file, size_t length, uint8_t *out, size_t room);
+struct answer thawonlai_replay(const uint8_t *file, size_t length, size_t count);
 struct made thawonlai_from_text(const uint8_t *text, size_t length, uint8_t *out, size_t room);
 struct made thawonlai_to_text(const uint8_t *file, size_t length, uint8_t *out, size_t room);
 struct checked thawonlai_check(const uint8_t *file, size_t length, const uint8_t *theirs, size_t their_length);

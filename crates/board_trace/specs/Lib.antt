@@ -1,2 +1,3 @@
--- What a reader of `board_trace` must believe, over the definitions of `trace` and `listing`.
+-- What a reader of `board_trace` must believe, over the definitions of `trace`, `replay_steps` and `listing`.
 pub mod Found
+pub mod Replayed

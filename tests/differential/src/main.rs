@@ -2,9 +2,6 @@
 //! field. Each case has its own seed: a difference prints it with the command that repeats the
 //! case alone, and ends the run with status 1. A summary says what was covered.
 
-// for the sorts that are not switched on yet
-#![allow(dead_code)]
-
 mod blocked;
 mod case;
 mod checks;
@@ -47,7 +44,7 @@ const SORTS: &[Sort] = &[
     // another kernel's listings
     sort("checks", 30_000, checks::checks),
     // the step between a file's events, in every field of the state
-    // sort("replays", 2_500, replays::replays),
+    sort("replays", 2_500, replays::replays),
 ];
 
 fn main() {

@@ -1,0 +1,85 @@
+-- A replay: the answer so far and the events that are left, and what a refused file answers.
+use Prim.Native.Nat.{ℕ, zero, suc}
+use mathlib.Core.List.{List, [], _∷_}
+use mathlib.Core.Path.{_≡_, refl, sym, ap, _∙_}
+use native.Mathlib.Omega.{arith}
+use borrow.Author.Tests.{eq-eqb, ne-eqb}
+use Rattle.records.specs.declared.Parameters.{Parameters}
+use Rattle.base.proofs.TestLaws.{cond-true, cond-false}
+use Rattle.passing.specs.Sequence.{firstOf}
+use Rattle.state.specs.declared.State.{State}
+use Rattle.events.specs.Opening.{emptyState, openStatus, opening}
+use Rattle.executive.specs.declared.Answer.{Answer}
+use Rattle.executive.specs.Answer.{openAnswer, unread}
+use Rattle.trace_contents.specs.declared.Contents.{Contents}
+use Rattle.trace_contents.specs.Read.{readStatus, contentsOf, nothing}
+use Rattle.trace_contents.proofs.ReadLaws.{contents-refused, contents-status}
+use Rattle.replay_steps.specs.declared.Begun.{Begun}
+use Rattle.replay_steps.specs.declared.Stepped.{Stepped}
+use Rattle.replay_steps.specs.FileSteps.{openingOf, begunOf, answersFrom}
+use Rattle.replay_steps.proofs.FileLaws.{Goes, Stops}
+use Rattle.board_trace.specs.Replayed.{lastOf, replayOf}
+
+-- one step more, and none
+pub last-next : (a : Answer) (s : State) (file : List ℕ) (offset k : ℕ) (r : Stepped) → Goes s file offset k r
+    → lastOf a (answersFrom s file offset (suc k)) ≡ lastOf (r .answer) (answersFrom (r .answer .state) file (r .offset) k)
+unfolding lastOf
+last-next a s file offset k r g = rw (g .answers)
+
+pub last-none : (a : Answer) (s : State) (file : List ℕ) (offset k : ℕ) → Stops s file offset k → lastOf a (answersFrom s file offset k) ≡ a
+unfolding lastOf
+last-none a s file offset k z = rw (z .answers)
+
+-- an opening that is refused has no threads
+closed : (start n : ℕ) (table : List Parameters) → (openStatus start n table ≡ 0 → ⊥) → openAnswer start n table .state ≡ emptyState 0 0
+unfolding opening
+closed start n table z = rw (ne-eqb (openStatus start n table) 0 z)
+
+-- a refused read has no threads, so that its opening is refused
+none-opens : (status : ℕ) → openStatus (nothing status .header .start) (nothing status .header .n) (nothing status .table) ≡ 5
+unfolding openStatus nothing firstOf
+none-opens status = refl
+
+opens : (start n : ℕ) (table : List Parameters) → openStatus start n table ≡ 0 → openAnswer start n table .status ≡ 0
+unfolding opening
+opens start n table z = rw (eq-eqb (openStatus start n table) 0 z)
+
+both-zero : (x y : ℕ) → x ≡ 0 → y ≡ 0 → firstOf (x ∷ y ∷ []) ≡ 0
+unfolding firstOf
+both-zero x y e f = rw (e, f)
+
+abbrev opensAs : Contents → ℕ
+opensAs c = openStatus (c .header .start) (c .header .n) (c .table)
+
+-- so a file that is refused leaves a state of no threads
+no-threads : (file : List ℕ) → (begunOf file .status ≡ 0 → ⊥) → openingOf file .state ≡ emptyState 0 0
+unfolding begunOf
+no-threads file n =
+    closed (contentsOf file .header .start) (contentsOf file .header .n) (contentsOf file .table) (λ z. go z (readStatus file) refl)
+  where
+    go : opensAs (contentsOf file) ≡ 0 → (r : ℕ) → readStatus file ≡ r → ⊥
+    go z zero e =
+        n
+        (both-zero (contentsOf file .status) (openingOf file .status) (contents-status file ∙ e)
+        (opens (contentsOf file .header .start) (contentsOf file .header .n) (contentsOf file .table) z))
+    go z (suc r) e =
+        let q : opensAs (contentsOf file) ≡ 5 = ap opensAs (contents-refused file (λ o. omega arith)) ∙ none-opens (readStatus file) in
+        omega arith
+
+module _ (file : List ℕ) (count : ℕ) (b : Begun) (e : b ≡ begunOf file) where
+  refuses : (b .status ≡ 0 → ⊥) → begunOf file .status ≡ 0 → ⊥
+  refuses n z = n (ap (λ (x : Begun). x .status) e ∙ z)
+
+  pub refused-is : (b .status ≡ 0 → ⊥) → unread (b .status) (b .answer .state) ≡ replayOf file count
+  unfolding replayOf begunOf
+  refused-is n =
+      ap (λ (x : Begun). unread (x .status) (x .answer .state)) e
+      ∙ ap (unread (begunOf file .status)) (no-threads file (refuses n))
+      ∙ sym (cond-false _ _ _ (ne-eqb (begunOf file .status) 0 (refuses n)))
+
+  pub replayed-is : (a : Answer) → b .status ≡ 0 → a ≡ lastOf (b .answer) (answersFrom (b .answer .state) file (b .offset) count) → a ≡ replayOf file count
+  unfolding replayOf begunOf
+  replayed-is a z h =
+      h
+      ∙ ap (λ (x : Begun). lastOf (x .answer) (answersFrom (x .answer .state) file (x .offset) count)) e
+      ∙ sym (cond-true _ _ _ (eq-eqb (begunOf file .status) 0 (ap (λ (x : Begun). x .status) (sym e) ∙ z)))
