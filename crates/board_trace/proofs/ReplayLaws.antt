@@ -5,12 +5,14 @@ use mathlib.Core.Path.{_≡_, refl, sym, ap, _∙_}
 use native.Mathlib.Omega.{arith}
 use borrow.Author.Tests.{eq-eqb, ne-eqb}
 use Rattle.records.specs.declared.Parameters.{Parameters}
+use Rattle.records.specs.declared.Header.{Header}
 use Rattle.base.proofs.TestLaws.{cond-true, cond-false}
-use Rattle.passing.specs.Sequence.{firstOf}
+use Rattle.base.specs.Refusals.{firstRefusal}
+use Rattle.base.proofs.RefusalLaws.{given-second}
 use Rattle.state.specs.declared.State.{State}
-use Rattle.events.specs.Opening.{emptyState, openStatus, opening}
+use Rattle.events.specs.Opening.{noState, openStatus, opening}
 use Rattle.executive.specs.declared.Answer.{Answer}
-use Rattle.executive.specs.Answer.{openAnswer, unread}
+use Rattle.executive.specs.Answer.{openAnswer}
 use Rattle.trace_contents.specs.declared.Contents.{Contents}
 use Rattle.trace_contents.specs.Read.{readStatus, contentsOf, nothing}
 use Rattle.trace_contents.proofs.ReadLaws.{contents-refused, contents-status}
@@ -31,50 +33,49 @@ unfolding lastOf
 last-none a s file offset k z = rw (z .answers)
 
 -- an opening that is refused has no threads
-closed : (start n : ℕ) (table : List Parameters) → (openStatus start n table ≡ 0 → ⊥) → openAnswer start n table .state ≡ emptyState 0 0
+closed : (header : Header) (table : List Parameters) → (openStatus header table ≡ 0 → ⊥) → openAnswer header table .state ≡ noState
 unfolding opening
-closed start n table z = rw (ne-eqb (openStatus start n table) 0 z)
+closed header table z = rw (ne-eqb (openStatus header table) 0 z)
 
 -- a refused read has no threads, so that its opening is refused
-none-opens : (status : ℕ) → openStatus (nothing status .header .start) (nothing status .header .n) (nothing status .table) ≡ 5
-unfolding openStatus nothing firstOf
+none-opens : (status : ℕ) → openStatus (nothing status .header) (nothing status .table) ≡ 5
+unfolding openStatus nothing firstRefusal
 none-opens status = refl
 
-opens : (start n : ℕ) (table : List Parameters) → openStatus start n table ≡ 0 → openAnswer start n table .status ≡ 0
+opens : (header : Header) (table : List Parameters) → openStatus header table ≡ 0 → openAnswer header table .status ≡ 0
 unfolding opening
-opens start n table z = rw (eq-eqb (openStatus start n table) 0 z)
-
-both-zero : (x y : ℕ) → x ≡ 0 → y ≡ 0 → firstOf (x ∷ y ∷ []) ≡ 0
-unfolding firstOf
-both-zero x y e f = rw (e, f)
+opens header table z = rw (eq-eqb (openStatus header table) 0 z)
 
 abbrev opensAs : Contents → ℕ
-opensAs c = openStatus (c .header .start) (c .header .n) (c .table)
+opensAs c = openStatus (c .header) (c .table)
 
 -- so a file that is refused leaves a state of no threads
-no-threads : (file : List ℕ) → (begunOf file .status ≡ 0 → ⊥) → openingOf file .state ≡ emptyState 0 0
+no-threads : (file : List ℕ) → (begunOf file .status ≡ 0 → ⊥) → openingOf file .state ≡ noState
 unfolding begunOf
 no-threads file n =
-    closed (contentsOf file .header .start) (contentsOf file .header .n) (contentsOf file .table) (λ z. go z (readStatus file) refl)
+    closed (contentsOf file .header) (contentsOf file .table) (λ z. go z (readStatus file) refl)
   where
     go : opensAs (contentsOf file) ≡ 0 → (r : ℕ) → readStatus file ≡ r → ⊥
     go z zero e =
         n
-        (both-zero (contentsOf file .status) (openingOf file .status) (contents-status file ∙ e)
-        (opens (contentsOf file .header .start) (contentsOf file .header .n) (contentsOf file .table) z))
+        (given-second (contentsOf file .status) (openingOf file .status) (contents-status file ∙ e)
+        ∙ opens (contentsOf file .header) (contentsOf file .table) z)
     go z (suc r) e =
         let q : opensAs (contentsOf file) ≡ 5 = ap opensAs (contents-refused file (λ o. omega arith)) ∙ none-opens (readStatus file) in
         omega arith
+
+abbrev refusal : ℕ → State → Answer
+refusal n s = record { status = n; running = 255; next = 0; state = s }
 
 module _ (file : List ℕ) (count : ℕ) (b : Begun) (e : b ≡ begunOf file) where
   refuses : (b .status ≡ 0 → ⊥) → begunOf file .status ≡ 0 → ⊥
   refuses n z = n (ap (λ (x : Begun). x .status) e ∙ z)
 
-  pub refused-is : (b .status ≡ 0 → ⊥) → unread (b .status) (b .answer .state) ≡ replayOf file count
+  pub refused-is : (b .status ≡ 0 → ⊥) → refusal (b .status) (b .answer .state) ≡ replayOf file count
   unfolding replayOf begunOf
   refused-is n =
-      ap (λ (x : Begun). unread (x .status) (x .answer .state)) e
-      ∙ ap (unread (begunOf file .status)) (no-threads file (refuses n))
+      ap (λ (x : Begun). refusal (x .status) (x .answer .state)) e
+      ∙ ap (refusal (begunOf file .status)) (no-threads file (refuses n))
       ∙ sym (cond-false _ _ _ (ne-eqb (begunOf file .status) 0 (refuses n)))
 
   pub replayed-is : (a : Answer) → b .status ≡ 0 → a ≡ lastOf (b .answer) (answersFrom (b .answer .state) file (b .offset) count) → a ≡ replayOf file count

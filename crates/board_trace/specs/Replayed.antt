@@ -4,9 +4,8 @@ use mathlib.Core.Bool.{cond}
 use mathlib.Core.List.{List, [], _∷_}
 use lib.Dec.{eqb}
 use Rattle.trace_reader.specs.Reader.{firstOffset}
-use Rattle.events.specs.Opening.{emptyState}
+use Rattle.events.specs.Opening.{noState}
 use Rattle.executive.specs.declared.Answer.{Answer}
-use Rattle.executive.specs.Answer.{unread}
 use Rattle.replay_steps.specs.FileSteps.{openingOf, begunOf, answersFrom}
 
 -- the last of some answers, or the one before them where there is none
@@ -21,4 +20,4 @@ unfoldable pub replayOf : List ℕ → ℕ → Answer
 replayOf file count =
     cond (eqb (begunOf file .status) 0)
     (lastOf (openingOf file) (answersFrom (openingOf file .state) file (firstOffset file) count))
-    (unread (begunOf file .status) (emptyState 0 0))
+    (record { status = begunOf file .status; running = 255; next = 0; state = noState })

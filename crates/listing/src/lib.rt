@@ -29,7 +29,7 @@ pub fn listing(file: &[u8], out: &mut [u8]) -> Listed
     let length = replay::put_listing(&mut text, file);
     if out.len() < length {
         return Listed {
-            status: 12,
+            status: base::NO_ROOM,
             length: 0,
         };
     }

@@ -12,13 +12,6 @@ use records::Event;
 use records::Parameters;
 pub use telling::to_text;
 
-// The refusals that are given here; all others are those of reading and of writing a file.
-const THREAD_COUNT: u8 = 5;
-
-const NO_ROOM: u8 = 12;
-
-const UNFIT: u8 = 14;
-
 // What both answer: the status, the number of the line at fault or 0, and how many bytes were written.
 #[repr(C)]
 pub struct Made {
