@@ -4,7 +4,7 @@ ghost use mathlib.Core.Bool.{true, false, cond};
 ghost use Prim.Native.Nat.{_<_, _≤_, _^_};
 ghost use lib.Dec.{eqb};
 ghost use lib.ListN.{length};
-ghost use Rattle.records.specs.Ranges.{mostThreads};
+ghost use Rattle.records.specs.Ranges.{mostThreads, lastTime};
 ghost use Rattle.account.specs.Rules.{Room, slotsAfter};
 ghost use Rattle.sporadic.specs.Rules.{dueOf, limitEffect, returnEffect};
 ghost use Rattle.sporadic.specs.declared.Place.the-variants.{Stays, Low, LowThenUpper, Upper};
@@ -134,7 +134,7 @@ fn change_row(xs: &mut [u64; SLOTS], i: usize, first: bool, amount: u64, count: 
 // The state at the time t. Each turn charges the ticks up to the next moment and does one thing that happens at it: the
 // limit or the end of the quantum first, then what is due, by thread number. The next turn finds what is still due now.
 pub fn advance(s0: State, t: u64) -> State
-    requires { ⌜ (soundState s0 ≡ true) × (s0 .now ≤ t) × (t ≤ 1000000000000000) ⌝ }
+    requires { ⌜ (soundState s0 ≡ true) × (s0 .now ≤ t) × (t ≤ lastTime) ⌝ }
     ensures { λ r. ⌜ r ≡ passed s0 t ⌝ }
 {
     // changed in place: a call that took the state would copy it

@@ -18,7 +18,7 @@ use base::wide;
 pub const HIGHEST: u8 = 32;
 
 // How many threads there are at most; a list may hold them all.
-const THREADS: usize = 32;
+pub const THREADS: usize = 32;
 
 // The bytes of a list's row, and of all rows.
 pub const ROW_BYTES: usize = 1 + THREADS;

@@ -1,12 +1,15 @@
 // Runs the stored cases over the lists and the word, and prints what each leaves. The expected output is the file stdout.
 use libc::STDOUT_FILENO;
+use ready::HIGHEST;
 use ready::LIST_BYTES;
+use ready::ROW_BYTES;
+use ready::THREADS;
 
 // Lists, word and the place of every thread: the priority in whose list it must stand, 0 for none.
 struct Case {
     lists: [u8; LIST_BYTES],
     word: u32,
-    places: [u8; 32],
+    places: [u8; THREADS],
 }
 
 fn text(s: &[u8]) {
@@ -26,7 +29,7 @@ fn fresh() -> Case {
     Case {
         lists: ready::empty(),
         word: 0,
-        places: [0u8; 32],
+        places: [0u8; THREADS],
     }
 }
 
@@ -54,7 +57,7 @@ fn append(c: Case, p: u8, i: u8) -> Case {
     if p < 1 {
         return c;
     }
-    if 32 < p {
+    if HIGHEST < p {
         return c;
     }
     let w = ready::append(&mut lists, word, p, i);
@@ -110,7 +113,7 @@ fn move_to_tail(c: Case, i: u8, p: u8) -> Case {
     if p < 1 {
         return c;
     }
-    if 32 < p {
+    if HIGHEST < p {
         return c;
     }
     let w = ready::move_to_tail(&mut lists, word, i, from, p);
@@ -140,15 +143,15 @@ fn show_list(lists: [u8; LIST_BYTES], p: u8) {
     if p < 1 {
         return;
     }
-    if 32 < p {
+    if HIGHEST < p {
         return;
     }
-    let at = (p as usize - 1) * 33;
+    let at = (p as usize - 1) * ROW_BYTES;
     let n = lists[at];
     text(b" list");
     byte(p);
     text(b":");
-    show_row(&lists[at..at + 33], n);
+    show_row(&lists[at..at + ROW_BYTES], n);
 }
 
 // The head of the highest list.
@@ -204,7 +207,7 @@ fn with_word(c: Case, word: u32) -> Case {
 
 fn with_place(c: Case, i: usize, p: u8) -> Case {
     let mut d = c;
-    if i < 32 {
+    if i < THREADS {
         d.places[i] = p;
     }
     d
