@@ -32,12 +32,12 @@ use Rattle.trace_reader.specs.Reader.{firstOffset, eventsFrom, arrayOf}
 use Rattle.trace_reader.proofs.ReaderLaws.{all-accepted}
 use Rattle.trace.specs.Write.{writeRefusals, writeStatus, fileOf, threadsBytes, eventsBytes, firstThreads}
 use Rattle.trace.proofs.RoundTrips.{read-then-write, write-then-read}
+use Rattle.trace.proofs.RunLaws.{joined-same}
 use Rattle.trace.proofs.WriteLaws.{Room, has-room}
 use Rattle.trace_text.specs.FromText.{stageAfter, wrongFrom, linesIn, wrongLine, startOf, threadsOf, eventsOf, headerIn, countIn, textStatus, traceIn}
 use Rattle.trace_text.specs.ToText.{fileLines, linesText, textOf, fitsIn, fileRefusals, fileStatus}
 use Rattle.trace_text.specs.RoundTrips.{MadeIsRead, FileAgain, OnlyUnfit, TextAgain}
 use Rattle.trace_text.proofs.FileLaws.{lines-fit}
-use Rattle.trace_text.proofs.StatusLaws.{joined-same}
 
 -- lines in their order: the start line, threads, events
 abbrev inOrder : ℕ → List Parameters → List Event → List Line
