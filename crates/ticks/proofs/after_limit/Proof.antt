@@ -1,4 +1,6 @@
 -- `ticks::after_limit` meets its contract.
+use native.Mathlib.Omega.{arith}
+use Prim.Native.Nat.{_<_}
 use mathlib.Core.Path.{_≡_, _∙_}
 use borrow.Author.Tests.{lt-ltb, le-ltb, eq-eqb, ne-eqb}
 use Rattle.base.proofs.TestLaws.{cond-false}
@@ -27,8 +29,9 @@ returns-2 c counts dues n h =
 returns-3 : tie.Need-returns-3
 returns-3 c counts dues n h =
     let a = c .before .before .before .before .before .args in
+    let l : a .k < a .x .thread = omega (arith, c .if3 .taken) in
     let e : _≡_ {A = Due} (record { due = a .d; thread = a .k }) (afterEntry (a .x) (a .k) (a .count) (a .d)) =
-    simp (ne-eqb _ _ (c .before .before .before .before .if1 .left), eq-eqb _ _ (c .before .before .if2 .left), lt-ltb _ _ (c .if3 .taken)) in
+    simp (ne-eqb _ _ (c .before .before .before .before .if1 .left), eq-eqb _ _ (c .before .before .if2 .left), lt-ltb (a .k) (a .x .thread) l) in
     e ∙ entry-came (a .x) (a .k) (a .count) (a .d) counts dues n h
 
 returns-4 : tie.Need-returns-4

@@ -1,13 +1,18 @@
 -- `ticks::earlier_of` meets its contract: each return is a case of the definition.
+use Prim.Native.Nat.{ℕ, zero, suc}
 use native.Mathlib.Omega.{arith}
-use mathlib.Core.Path.{sym}
-use borrow.Author.Needs.{needs}
+use mathlib.Core.Path.{_≡_, refl, sym}
+use Rattle.ticks.specs.Running.{earlier}
 use Rattle.ticks.proofs.EarlierLaws.{earlier-none, earlier-first, earlier-second}
 use Rattle.ticks.proofs.earlier_of.Statement.{statement}
 use Rattle.ticks.proofs.earlier_of.Tie as tie
 
+first-none : (a b : ℕ) {r : ℕ} → r ≡ b → a ≡ 0 → r ≡ earlier a b
+first-none zero b e z = e
+first-none (suc a) b e z = absurd (omega arith)
+
 returns : tie.Need-returns
-returns c = search needs
+returns c = let a = c .before .args in first-none (a .a) (a .b) (refl {a = a .b}) (c .if1 .taken)
 
 returns-2 : tie.Need-returns-2
 returns-2 c = let a = c .before .before .args in sym (earlier-none (a .a) (a .b) (c .if2 .taken))

@@ -1,10 +1,10 @@
 -- `ticks::next_due` meets its contract: no due is before 0.
-use borrow.Author.Needs.{needs}
+use native.Mathlib.Omega.{arith}
 use Rattle.ticks.proofs.next_due.Statement.{statement}
 use Rattle.ticks.proofs.next_due.Tie as tie
 
 next-due-from-requires : tie.Need-next-due-from-requires
-next-due-from-requires c κs = search needs
+next-due-from-requires c κs = (c .pre, λ i h k. omega arith)
 
 returns : tie.Need-returns
 returns c = c .next-due-from .ensures

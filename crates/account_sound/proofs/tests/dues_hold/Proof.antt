@@ -35,7 +35,7 @@ returns : tie.Need-returns Inv-loop μ-loop
 returns c =
     let b = c .before .before in
     let a = b .before .args in
-    sym (due-early (a .n) (b .loop .i) (a .t1) (c .before .loop-test .taken) (omega arith) (b .loop .last) (a .base + a .period) (c .if1 .taken)) ∙ b .loop .inv .2
+    sym (due-early (a .n) (b .loop .i) (a .t1) (c .before .loop-test .taken) (omega arith) (b .loop .last) (a .base + a .period) (omega (arith, c .if1 .taken))) ∙ b .loop .inv .2
 
 sub-if2 : tie.Need-sub-if2 Inv-loop μ-loop
 sub-if2 c = omega arith
@@ -55,7 +55,7 @@ loop-again c =
     let a = b .before .args in (
       omega arith,
       omega arith,
-      sym (due-step (a .n) (b .loop .i) (a .t1) (c .before .before .loop-test .taken) (omega arith) (b .loop .last) (a .base + a .period) (c .before .if1 .left) (omega arith)) ∙ b .loop .inv .2,
+      sym (due-step (a .n) (b .loop .i) (a .t1) (c .before .before .loop-test .taken) (omega arith) (b .loop .last) (a .base + a .period) (omega (arith, c .before .if1 .left)) (omega arith)) ∙ b .loop .inv .2,
     )
 
 returns-3 : tie.Need-returns-3 Inv-loop μ-loop
