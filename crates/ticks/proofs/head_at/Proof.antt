@@ -4,6 +4,7 @@ use native.Mathlib.Omega.{arith}
 use mathlib.Core.Path.{sym, _∙_}
 use borrow.Author.Tests.{eq-eqb, ne-eqb}
 use Rattle.base.proofs.TestLaws.{cond-true, cond-false}
+use Rattle.ready.specs.Rules.{Held}
 use Rattle.ticks.proofs.head_at.Statement.{statement}
 use Rattle.ticks.proofs.head_at.Tie as tie
 
@@ -11,7 +12,10 @@ returns : tie.Need-returns
 returns c = let a = c .before .args in sym (cond-true (eqb (a .p) 0) _ _ (eq-eqb (a .p) 0 (omega arith)))
 
 head-requires : tie.Need-head-requires
-head-requires c κs = let b = c .before in b .pre (ne-eqb (b .args .p) 0 (λ e. omega arith))
+head-requires c κs =
+    let b = c .before in
+    let h : Held (b .args .p) (b .args .lists .now) = b .pre (ne-eqb (b .args .p) 0 (λ e. omega arith)) in
+    h
 
 returns-2 : tie.Need-returns-2
 returns-2 c = let a = c .before .before .args in c .head .ensures ∙ sym (cond-false (eqb (a .p) 0) _ _ (ne-eqb (a .p) 0 (λ e. omega arith)))

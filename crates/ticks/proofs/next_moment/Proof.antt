@@ -1,11 +1,11 @@
 -- `ticks::next_moment` meets its contract.
 use Prim.Native.Nat.{ℕ}
 use mathlib.Core.Bool.{cond}
-use mathlib.Core.Path.{ap, _∙_}
+use mathlib.Core.Path.{_≡_, ap, _∙_}
 use lib.Dec.{eqb}
 use borrow.Author.Needs.{needs}
 use Rattle.ticks.specs.declared.Due.{Due}
-use Rattle.ticks.specs.Running.{earlier, limitOf}
+use Rattle.ticks.specs.Running.{earlier, limitOf, nextDue}
 use Rattle.ticks.proofs.next_moment.Statement.{statement}
 use Rattle.ticks.proofs.next_moment.Tie as tie
 
@@ -19,7 +19,14 @@ earlier-of-requires : tie.Need-earlier-of-requires
 earlier-of-requires c κs = search needs
 
 returns : tie.Need-returns
-returns c = c .earlier-of .ensures ∙ ap (λ (l : ℕ). earlier l (c .before .before .next-due .result .due)) (c .before .limit-at .ensures) ∙ ap (λ (x : Due). earlier (cond (eqb (c .before .before .before .args .p) 0) 0 (limitOf (c .before .before .before .args .time) (c .before .before .before .args .p) (c .before .before .before .args .t))) (x .due)) (c .before .before .next-due .ensures)
+returns c =
+    let l = c .before in
+    let x = l .before in
+    let a = x .before .args in
+    let e : x .next-due .result ≡ nextDue (a .counts .now) (a .dues .now) (a .n) = x .next-due .ensures in
+    c .earlier-of .ensures
+    ∙ ap (λ (m : ℕ). earlier m (x .next-due .result .due)) (l .limit-at .ensures)
+    ∙ ap (λ (d : Due). earlier (cond (eqb (a .p) 0) 0 (limitOf (a .time) (a .p) (a .t))) (d .due)) e
 
 pub next-moment-spec : {M : Type 1} → statement M
 next-moment-spec =

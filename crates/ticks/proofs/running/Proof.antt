@@ -1,7 +1,7 @@
 -- `ticks::running` meets its contract.
 use Prim.Native.Nat.{ℕ}
 use mathlib.Core.Bool.{cond}
-use mathlib.Core.Path.{sym, ap, subst⁻¹, _∙_}
+use mathlib.Core.Path.{_≡_, refl, sym, ap, subst⁻¹, _∙_}
 use lib.Dec.{eqb}
 use borrow.Author.Tests.{eq-eqb, ne-eqb}
 use Rattle.base.proofs.TestLaws.{cond-true, cond-false}
@@ -15,8 +15,11 @@ use Rattle.ticks.proofs.running.Tie as tie
 highest-requires : tie.Need-highest-requires
 highest-requires c κs = search needs
 
+none : (word h : ℕ) {r : ℕ} → r ≡ 255 → highestOf word ≡ 0 → r ≡ cond (eqb (highestOf word) 0) 255 h
+none word h e z = e ∙ sym (cond-true (eqb (highestOf word) 0) _ _ (eq-eqb (highestOf word) 0 z))
+
 returns : tie.Need-returns
-returns c = sym (cond-true (eqb (highestOf (c .before .before .args .word)) 0) _ _ (eq-eqb (highestOf (c .before .before .args .word)) 0 (sym (c .before .highest .ensures) ∙ c .if1 .taken)))
+returns c = none (c .before .before .args .word) _ (refl {a = 255}) (sym (c .before .highest .ensures) ∙ c .if1 .taken)
 
 head-at-requires : tie.Need-head-at-requires
 head-at-requires c κs =
