@@ -10,9 +10,9 @@ use Rattle.text.specs.Decimal.{decimal}
 use Rattle.text.proofs.DecimalLaws.{digits-fit, every}
 use Rattle.text.specs.Placed.{Put}
 use Rattle.text.proofs.PlacedLaws.{then, length-put}
-use Rattle.text_lines.specs.Numbers.{endByte, endOf, numbersText}
+use Rattle.text_numbers.specs.Numbers.{endByte, endOf, numbersText}
 use Rattle.text_lines.proofs.LineLaws.{Ended, Inside, inside-ended, inside-append}
-use Rattle.text_lines.proofs.NumberLaws.{end-is}
+use Rattle.text_numbers.proofs.NumberLaws.{end-is}
 
 -- the text of the first i numbers, as it stands in the text of all
 unfoldable pub front : List ℕ → ℕ → List ℕ

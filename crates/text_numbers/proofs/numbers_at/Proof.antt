@@ -5,11 +5,11 @@ use native.Mathlib.Omega.{arith}
 use lib.Dec.{eqb}
 use lib.ListN.{length, getD, drop}
 use borrow.Author.Needs.{needs}
-use Rattle.text_lines.specs.declared.Number.the-variants as number
-use Rattle.text_lines.specs.Numbers.{endByte, decimalAt}
-use Rattle.text_lines.proofs.NumberLaws.{Left, left-all, left-next, left-none, left-over, left-done, not-numbers, end-some}
-use Rattle.text_lines.proofs.decimals.numbers_at.Statement.{statement}
-use Rattle.text_lines.proofs.decimals.numbers_at.Tie as tie
+use Rattle.text_numbers.specs.declared.Number.the-variants as number
+use Rattle.text_numbers.specs.Numbers.{endByte, decimalAt}
+use Rattle.text_numbers.proofs.NumberLaws.{Left, left-all, left-next, left-none, left-over, left-done, not-numbers, end-some}
+use Rattle.text_numbers.proofs.numbers_at.Statement.{statement}
+use Rattle.text_numbers.proofs.numbers_at.Tie as tie
 
 abbrev Inv-loop : tie.InvT-loop
 Inv-loop text place most values₀ at₀ i₀ values at i = (i ≤ length most) × Left most (drop place text) text values at i

@@ -3,8 +3,8 @@ use mathlib.Core.Path.{sym}
 use borrow.Author.Tests.{lt-leb, le-leb}
 use Rattle.base.specs.Tests.{all}
 use Rattle.base.proofs.TestLaws.{all-one}
-use Rattle.text_lines.proofs.decimals.is_digit.Statement.{statement}
-use Rattle.text_lines.proofs.decimals.is_digit.Tie as tie
+use Rattle.text_numbers.proofs.is_digit.Statement.{statement}
+use Rattle.text_numbers.proofs.is_digit.Tie as tie
 
 returns : tie.Need-returns
 unfolding all

@@ -13,9 +13,9 @@ use Rattle.base.specs.Tests.{all}
 use Rattle.base.proofs.TestLaws.{all-true, true-all, all-false, cond-elim, false-true, all-one}
 use Rattle.text.specs.Decimal.{decimal, readFrom}
 use Rattle.text.proofs.DecimalLaws.{small, large, read-more, reads-back, no-leading-zero, every}
-use Rattle.text_lines.specs.declared.Number.{Number}
-use Rattle.text_lines.specs.declared.Number.the-variants as number
-use Rattle.text_lines.specs.Numbers.{digit, digitCount, leadingValue, startsWithNumber, decimalAt, pick, endByte, noNumbers, numbersFound, endOf, numbersText, areNumbers, numbersOf, Within, Below, TextIsRead, OnlyTextIsRead}
+use Rattle.text_numbers.specs.declared.Number.{Number}
+use Rattle.text_numbers.specs.declared.Number.the-variants as number
+use Rattle.text_numbers.specs.Numbers.{digit, digitCount, leadingValue, startsWithNumber, decimalAt, pick, endByte, noNumbers, numbersFound, endOf, numbersText, areNumbers, numbersOf, Within, Below, TextIsRead, OnlyTextIsRead}
 
 pub digit-range : (b : ℕ) → digit b ≡ true → (48 ≤ b) × (b ≤ 57)
 digit-range b e = let t = all-true (leb 48 b ∷ leb b 57 ∷ []) e in (leb-true 48 b (t .0), leb-true b 57 (t .1 .0))

@@ -1,13 +1,23 @@
-// Decimal numbers without leading zeros, one space between two of them and a newline after the last.
+// Decimal numbers in a line: without leading zeros, one space between two of them and a newline after the last.
 ghost use mathlib.Core.Path.{_≡_};
 ghost use Prim.Native.Nat.{_+_, _≤_, _<_};
 ghost use lib.ListN.{length, drop};
 ghost use Rattle.text.specs.Placed.{Put};
-ghost use Rattle.text_lines.specs.Numbers.{digit, decimalAt, endByte, noNumbers, numbersFound, numbersText};
-use crate::Number;
-use crate::Numbers;
+ghost use Rattle.text_numbers.specs.Numbers.{digit, decimalAt, endByte, noNumbers, numbersFound, numbersText};
 use text::put_byte;
 use text::put_number;
+
+// A number that was found, with the place after the byte that ends it; or none.
+pub enum Number {
+    Value(u64, usize),
+    Nothing,
+}
+
+// The numbers of a line, with zeros after the last. Where `right` is false the line is not made of such numbers, and all are 0.
+pub struct Numbers {
+    pub right: bool,
+    pub values: [u64; 8],
+}
 
 fn wide(b: u8) -> u64
     ensures { λ r. ⌜ r ≡ b ⌝ }

@@ -1,13 +1,13 @@
--- `text_lines::decimals::put_numbers` meets its contract: the bytes so far are those of the first i numbers.
+-- `text_numbers::put_numbers` meets its contract: the bytes so far are those of the first i numbers.
 use Prim.Native.Nat.{_-_, _≤_}
 use mathlib.Core.Path.{_≡_, refl, _∙_}
 use native.Mathlib.Omega.{arith}
 use lib.ListN.{length}
 use Rattle.text.specs.Placed.{Put}
 use Rattle.text.proofs.PlacedLaws.{nothing}
-use Rattle.text_lines.proofs.WritingLaws.{front, front-all, front-room, front-next}
-use Rattle.text_lines.proofs.decimals.put_numbers.Statement.{statement}
-use Rattle.text_lines.proofs.decimals.put_numbers.Tie as tie
+use Rattle.text_numbers.proofs.WritingLaws.{front, front-all, front-room, front-next}
+use Rattle.text_numbers.proofs.put_numbers.Statement.{statement}
+use Rattle.text_numbers.proofs.put_numbers.Tie as tie
 
 abbrev Inv-loop : tie.InvT-loop
 Inv-loop out₀ at numbers here₀ i₀ out here i = (i ≤ length numbers) × (length out ≡ length out₀) × Put out₀ at (front numbers i) out here

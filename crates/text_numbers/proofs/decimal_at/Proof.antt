@@ -9,11 +9,11 @@ use lib.ListN.{length, getD, drop, length-drop}
 use lib.Seq.{getD-drop}
 use borrow.Author.Tests.{not-true, not-false, leb-true, leb-false}
 use lib.Dec.{leb}
-use Rattle.text_lines.specs.declared.Number.the-variants as number
-use Rattle.text_lines.specs.Numbers.{decimalAt, digit}
-use Rattle.text_lines.proofs.NumberLaws.{digit-range, found, not-found, Scanned, scan-none, scan-next, scan-no-digit, scan-other-end, scan-zero-leads, scan-too-large, scan-found, scan-over}
-use Rattle.text_lines.proofs.decimals.decimal_at.Statement.{statement}
-use Rattle.text_lines.proofs.decimals.decimal_at.Tie as tie
+use Rattle.text_numbers.specs.declared.Number.the-variants as number
+use Rattle.text_numbers.specs.Numbers.{decimalAt, digit}
+use Rattle.text_numbers.proofs.NumberLaws.{digit-range, found, not-found, Scanned, scan-none, scan-next, scan-no-digit, scan-other-end, scan-zero-leads, scan-too-large, scan-found, scan-over}
+use Rattle.text_numbers.proofs.decimal_at.Statement.{statement}
+use Rattle.text_numbers.proofs.decimal_at.Tie as tie
 
 abbrev Inv-loop : tie.InvT-loop
 Inv-loop text place most end value₀ i₀ value i = (place ≤ i) × Scanned most (drop place text) (i - place) value

@@ -7,10 +7,10 @@ use lib.Dec.{leb, eqb}
 use lib.ListN.{length, take, drop, getD, replicate}
 use Rattle.base.specs.Tests.{all}
 use Rattle.text.specs.Decimal.{decimal, readFrom}
-use Rattle.text_lines.specs.declared.Number.{Number}
-use Rattle.text_lines.specs.declared.Number.the-variants as number
-use Rattle.text_lines.specs.declared.Numbers.{Numbers}
+use Rattle.text_numbers.specs.declared.Number.{Number}
+use Rattle.text_numbers.specs.declared.Number.the-variants as number
+use Rattle.text_numbers.specs.declared.Numbers.{Numbers}
 use Rattle.text_lines.specs.Lines.{newline}
 
 abbrev pub space : ℕ
 space = 32

@@ -1,0 +1,2 @@
+-- What a reader of `text_numbers` must believe.
+pub mod Numbers
