@@ -17,9 +17,9 @@ use listing::Listed;
 use records::Event;
 use records::Header;
 use records::Parameters;
+use records::THREADS;
 use trace::Written;
 use trace_records::EVENTS;
-use trace_records::THREADS;
 
 // What a read finds: the status, the number of threads, the start time and the number of events.
 #[repr(C)]

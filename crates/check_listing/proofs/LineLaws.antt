@@ -6,7 +6,8 @@ use mathlib.Core.Path.{_≡_}
 use native.Mathlib.Omega.{arith}
 use lib.Dec.{eqb}
 use lib.ListN.{length, drop, length-drop}
-use Rattle.text_lines.specs.Lines.{newline, lineLength}
+use Rattle.text_lines.specs.Lines.{lineLength}
+use Rattle.text.specs.Fields.{newline}
 
 line-fits : (s : List ℕ) → lineLength s ≤ length s
 unfolding lineLength

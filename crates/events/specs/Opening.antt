@@ -8,7 +8,7 @@ use Rattle.records.specs.declared.Parameters.{Parameters}
 use Rattle.records.specs.declared.Header.{Header}
 use Rattle.base.specs.Status.{wrongThread, pastLastTime, wrongParameters}
 use Rattle.base.specs.Tests.{below}
-use Rattle.records.specs.Ranges.{mostThreads, mostReplenishments, lastTime, inRange, noParameters}
+use Rattle.records.specs.Ranges.{mostThreads, mostReplenishments, lastTime, inRange, noParameters, noHeader}
 use Rattle.ready.specs.Lists.{listBytes, appended}
 use Rattle.base.specs.Refusals.{firstRefusal}
 use Rattle.rows.specs.Rows.{allSlots}
@@ -26,7 +26,7 @@ emptyState header =
 
 -- 01 Status 20: a state of no threads and zeros
 abbrev pub noState : State
-noState = emptyState (record { n = 0; start = 0 })
+noState = emptyState noHeader
 
 -- the parameters as a state keeps them: the start flag is spent
 abbrev pub withoutFlag : Parameters → Parameters

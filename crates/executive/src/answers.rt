@@ -4,10 +4,10 @@ ghost use mathlib.Core.Bool.{true};
 ghost use Rattle.state.specs.Sound.{soundState};
 ghost use Rattle.executive.specs.Private.{answered, unread, timeStatus, earlyStatus, soundStatus};
 use super::Answer;
-use super::LAST_TIME;
-use super::LONGEST_STEP;
 use super::parts;
 use records::Event;
+use records::LAST_TIME;
+use records::LONGEST_STEP;
 use state::State;
 
 // The answer that leaves a sound state.

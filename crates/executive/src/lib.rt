@@ -12,8 +12,8 @@ use ready::LIST_BYTES;
 use records::Event;
 use records::Header;
 use records::Parameters;
+use records::THREADS;
 use rows::SLOTS;
-use rows::THREADS;
 use state::State;
 use state::Thread;
 
@@ -21,11 +21,6 @@ mod answers; // answers.rt: who runs and when to ask again
 mod changes; // changes.rt: what an accepted event does to the state
 mod opening; // opening.rt: the state that a table of threads gives
 mod parts; // parts.rt: what an event does to one thread and its account
-
-// 01 Numbers 5 and 6: the last time, and how far an accepted event may be after the time now.
-const LAST_TIME: u64 = 1000000000000000;
-
-const LONGEST_STEP: u64 = 1000000;
 
 // Status, the running thread or 255, the next moment or 0, and the state.
 #[repr(C)]

@@ -12,7 +12,7 @@ use account::ENTRIES;
 use account::Pending;
 use records::Event;
 use records::Parameters;
-use rows::THREADS;
+use records::THREADS;
 use sporadic::Server;
 use state::Thread;
 

@@ -1,8 +1,8 @@
 // A state with one field changed, by the number of the field.
 use ready::LIST_BYTES;
 use records::Parameters;
+use records::THREADS;
 use rows::SLOTS;
-use rows::THREADS;
 use state::State;
 use state::Thread;
 

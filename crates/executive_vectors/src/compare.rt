@@ -1,8 +1,8 @@
 // Two states compared field by field.
 use ready::LIST_BYTES;
 use records::Parameters;
+use records::THREADS;
 use rows::SLOTS;
-use rows::THREADS;
 use state::State;
 use state::Thread;
 

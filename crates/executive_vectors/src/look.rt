@@ -2,7 +2,7 @@
 use super::make::wide;
 use account::ENTRIES;
 use ready::LIST_BYTES;
-use rows::THREADS;
+use records::THREADS;
 use state::State;
 
 // The length of list p and its first three places.

@@ -11,7 +11,7 @@ use executive::Answer;
 use records::Event;
 use records::Header;
 use records::Parameters;
-use rows::THREADS;
+use records::THREADS;
 use state::State;
 
 // The cases so far, the table of the next opening, the state that events are given to, and a state that is held beside it.

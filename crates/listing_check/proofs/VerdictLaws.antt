@@ -9,7 +9,8 @@ use lib.ListN.{length, take, drop}
 use lib.Seq.{take-at, length-take-le}
 use borrow.Author.Tests.{eqb-true, eqb-false}
 use Rattle.base.proofs.TestLaws.{cond-true, cond-false}
-use Rattle.text_lines.specs.Lines.{newline, linesOf, differenceFrom, firstDifference}
+use Rattle.text_lines.specs.Lines.{linesOf, differenceFrom, firstDifference}
+use Rattle.text.specs.Fields.{newline}
 use Rattle.text_lines.proofs.LineLaws.{no-difference, next-both, byte-apart, end-first}
 use Rattle.replay_steps.specs.declared.Begun.{Begun}
 use Rattle.replay_steps.specs.FileSteps.{begunOf}

@@ -15,7 +15,7 @@ use Rattle.base.proofs.TestLaws.{All, all-true, zeros-eq, zeros-replicate}
 use Rattle.ready.specs.Lists.{start, rowAt, size, members, unused, rowOf, threads, headOf, withThreads, insertAt, without, appended, removed, occurs}
 use Rattle.ready.specs.Word.{sizeAt}
 use Rattle.ready.specs.Rules.{Formed}
-use Rattle.ready.specs.Steps.{indexOf, closed}
+use Rattle.ready.specs.Private.{indexOf, closed}
 
 -- ---- parts of a list
 

@@ -13,7 +13,7 @@ use lib.ListN.{length, set, take, drop, getD, length-append, length-take, length
 use lib.Seq.{drop-cons, take-suc, set-at, getD-append-add, getD-drop}
 use borrow.Author.Tests.{eq-eqb, ne-eqb}
 use Rattle.base.specs.Tests.{all, zeros}
-use Rattle.ready.specs.Steps.{indexOf, closed, strikes, struck}
+use Rattle.ready.specs.Private.{indexOf, closed, strikes, struck}
 
 -- ---- two numbers together have no bit exactly where each is 0
 

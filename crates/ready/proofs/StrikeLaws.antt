@@ -13,7 +13,7 @@ use Rattle.base.specs.Tests.{all, zeros}
 use Rattle.base.proofs.TestLaws.{tests, All, all-true, true-all, false-true}
 use Rattle.ready.specs.Lists.{rowAt, size, members, unused, occurs}
 use Rattle.ready.specs.Sound.{small}
-use Rattle.ready.specs.Steps.{strikes, struck}
+use Rattle.ready.specs.Private.{strikes, struck}
 use Rattle.ready.proofs.Soundness.{mark, mark-same, mark-other, mark-is, RowSound, RowsSound, row-same}
 
 -- ---- tests

@@ -11,19 +11,15 @@ ghost use Rattle.ready.specs.Lists.{rowBytes, listBytes, start, headOf, 
 ghost use Rattle.ready.specs.Word.{occupancy, highestOf};
 ghost use Rattle.ready.specs.Rules.{Held, Joinable, Leavable, Movable};
 ghost use Rattle.ready.specs.Sound.{soundLists, soundRows};
-ghost use Rattle.ready.specs.Steps.{indexOf, closed, Struck, RowStruck};
+ghost use Rattle.ready.specs.Private.{indexOf, closed, Struck, RowStruck};
 use base::wide;
+use records::HIGHEST_PRIORITY;
+use records::THREADS;
 
-// The highest priority, and so the number of the lists.
-pub const HIGHEST: u8 = 32;
-
-// How many threads there are at most; a list may hold them all.
-pub const THREADS: usize = 32;
-
-// The bytes of a list's row, and of all rows.
+// The bytes of a list's row, which may hold all threads, and of all rows.
 pub const ROW_BYTES: usize = 1 + THREADS;
 
-pub const LIST_BYTES: usize = HIGHEST as usize * ROW_BYTES;
+pub const LIST_BYTES: usize = HIGHEST_PRIORITY as usize * ROW_BYTES;
 
 // Where the row of list p starts.
 fn row_start(p: u8) -> usize
@@ -198,7 +194,7 @@ fn sound_rows(lists: &[u8], places: [u8; THREADS]) -> bool
     let mut left = places;
     let mut p: u8 = 0;
     let mut at: usize = 0;
-    while p < HIGHEST {
+    while p < HIGHEST_PRIORITY {
         p = p + 1;
         if !strike_row(&lists[at..at + ROW_BYTES], p, &mut left) {
             return false;
@@ -214,7 +210,7 @@ fn word_of(lists: &[u8; LIST_BYTES]) -> u32
 {
     let mut word: u32 = 0;
     let mut level: u8 = 0;
-    while level < HIGHEST {
+    while level < HIGHEST_PRIORITY {
         level = level + 1;
         if lists[row_start(level)] != 0 {
             word = word + bit(level);

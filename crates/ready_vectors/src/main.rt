@@ -1,9 +1,9 @@
 // Runs the stored cases over the lists and the word, and prints what each leaves. The expected output is the file stdout.
 use libc::STDOUT_FILENO;
-use ready::HIGHEST;
 use ready::LIST_BYTES;
 use ready::ROW_BYTES;
-use ready::THREADS;
+use records::HIGHEST_PRIORITY;
+use records::THREADS;
 
 // Lists, word and the place of every thread: the priority in whose list it must stand, 0 for none.
 struct Case {
@@ -57,7 +57,7 @@ fn append(c: Case, p: u8, i: u8) -> Case {
     if p < 1 {
         return c;
     }
-    if HIGHEST < p {
+    if HIGHEST_PRIORITY < p {
         return c;
     }
     let w = ready::append(&mut lists, word, p, i);
@@ -113,7 +113,7 @@ fn move_to_tail(c: Case, i: u8, p: u8) -> Case {
     if p < 1 {
         return c;
     }
-    if HIGHEST < p {
+    if HIGHEST_PRIORITY < p {
         return c;
     }
     let w = ready::move_to_tail(&mut lists, word, i, from, p);
@@ -143,7 +143,7 @@ fn show_list(lists: [u8; LIST_BYTES], p: u8) {
     if p < 1 {
         return;
     }
-    if HIGHEST < p {
+    if HIGHEST_PRIORITY < p {
         return;
     }
     let at = (p as usize - 1) * ROW_BYTES;

@@ -4,6 +4,7 @@ use mathlib.Core.List.{[], _∷_}
 use Prim.Native.Nat.{ℕ, zero, suc}
 use lib.Dec.{ltb, leb, eqb}
 use Rattle.records.specs.declared.Parameters.{Parameters}
+use Rattle.records.specs.declared.Header.{Header}
 use Rattle.base.specs.Tests.{all}
 
 -- 01 Numbers 1: at most 32 threads; thread numbers start at 0
@@ -81,3 +82,7 @@ allZero p = all (eqb (p .policy) 0 ∷ eqb (p .priority) 0 ∷ eqb (p .flag) 0 �
 -- 01 State 17: parameters of zeros, what stands past the last thread of a table
 abbrev pub noParameters : Parameters
 noParameters = record { policy = 0; priority = 0; low = 0; «max_repl» = 0; flag = 0; budget = 0; period = 0 }
+
+-- 01 Status 20 and 21: a header of zeros, what a refused opening and a refused read have
+abbrev pub noHeader : Header
+noHeader = record { n = 0; start = 0 }

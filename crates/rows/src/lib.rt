@@ -8,10 +8,9 @@ ghost use Rattle.account.specs.Rules.{withoutFirst};
 ghost use Rattle.rows.specs.Rows.{allSlots, slotsAt, withSlots, pendingOf};
 use account::ENTRIES;
 use account::Pending;
+use records::THREADS;
 
-// How many threads there are at most, and how many slots they have together.
-pub const THREADS: usize = 32;
-
+// How many slots the threads have together.
 pub const SLOTS: usize = THREADS * ENTRIES;
 
 // Thread i's slots.

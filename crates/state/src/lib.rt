@@ -8,17 +8,16 @@ ghost use Rattle.rows.specs.Rows.{allSlots};
 ghost use Rattle.state.specs.Updates.{threadOf, withBlocked, withLeft, withServer, withRun, fullQuantum, renewed, stateOf};
 use ready::LIST_BYTES;
 use records::Header;
+use records::LAST_TIME;
 use records::Parameters;
+use records::THREADS;
 use rows::SLOTS;
-use rows::THREADS;
 use sporadic::Server;
 
 mod tests; // tests.rt: what soundness asks of one thread
 
-// The most threads, as N is compared with it, and the last time.
+// The most threads, as N is compared with it.
 const MOST: u32 = THREADS as u32;
-
-const LAST_TIME: u64 = 1000000000000000;
 
 // One thread: its parameters, whether it is blocked (1) or runnable (0), its total run time, the quantum left of an RR thread, and the
 // capacity, U and activation time of a sporadic one.

@@ -10,8 +10,8 @@ ghost use Rattle.state.specs.Sound.{serverTests, leftTests, presentField
 use super::Thread;
 use account::Account;
 use account::ENTRIES;
+use records::THREADS;
 use rows::SLOTS;
-use rows::THREADS;
 use sporadic::Server;
 
 // The largest max_repl.

@@ -10,7 +10,8 @@ use lib.Seq.{drop-cons}
 use native.Mathlib.Numerals.{add-one}
 use borrow.Author.Tests.{eq-eqb, ne-eqb, eqb-true, eqb-false}
 use Rattle.base.proofs.TestLaws.{cond-elim, false-true}
-use Rattle.text_lines.specs.Lines.{newline, before, linesOf, lineLength, equal, startsWith, differenceFrom, firstDifference, NoDifference}
+use Rattle.text_lines.specs.Lines.{before, linesOf, lineLength, equal, startsWith, differenceFrom, firstDifference, NoDifference}
+use Rattle.text.specs.Fields.{newline}
 
 pub equal-refl : (s : List ℕ) → equal s s ≡ true
 unfolding equal

@@ -6,9 +6,7 @@ use mathlib.Core.List.{List, [], _∷_}
 use mathlib.Core.Path.{_≡_}
 use lib.Dec.{eqb}
 use lib.ListN.{length, take}
-
-abbrev pub newline : ℕ
-newline = 10
+use Rattle.text.specs.Fields.{newline}
 
 -- a byte that is no newline stands before the first of the lines after it
 abbrev pub before : ℕ → List (List ℕ) → List (List ℕ)

@@ -10,10 +10,7 @@ use Rattle.text.specs.Decimal.{decimal, readFrom}
 use Rattle.text_numbers.specs.declared.Number.{Number}
 use Rattle.text_numbers.specs.declared.Number.the-variants as number
 use Rattle.text_numbers.specs.declared.Numbers.{Numbers}
-use Rattle.text_lines.specs.Lines.{newline}
-
-abbrev pub space : ℕ
-space = 32
+use Rattle.text.specs.Fields.{space, newline}
 
 abbrev pub digit : ℕ → Bool
 digit b = all (leb 48 b ∷ leb b 57 ∷ [])

@@ -11,8 +11,8 @@ ghost use Rattle.passing.specs.Time.{dueBy};
 ghost use Rattle.ticks.specs.Running.{ran, earlier, limitOf, sooner, nextDue, NextAfter, NoneBefore};
 use account::ENTRIES;
 use ready::LIST_BYTES;
+use records::THREADS;
 use rows::SLOTS;
-use rows::THREADS;
 use state::Thread;
 
 // The first of the dues, and the lowest thread that has it; thread THREADS for none.

@@ -5,7 +5,7 @@ use mathlib.Core.List.{List, []}
 use native.Mathlib.Omega.{arith}
 use lib.ListN.{length, take, drop, getD, length-drop, drop-of-length-le}
 use lib.Seq.{length-take-le, getD-take, getD-drop}
-use Rattle.ready.specs.Steps.{indexOf}
+use Rattle.ready.specs.Private.{indexOf}
 use Rattle.ready.proofs.StepLaws.{index-here, index-next}
 use Rattle.ready.proofs.index_of.Statement.{statement}
 use Rattle.ready.proofs.index_of.Tie as tie

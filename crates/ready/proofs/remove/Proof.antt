@@ -6,7 +6,7 @@ use native.Mathlib.Omega.{arith}
 use lib.ListN.{set, getD}
 use Rattle.ready.specs.Lists.{threads, removed}
 use Rattle.ready.specs.Word.{sizeAt, occupancy}
-use Rattle.ready.specs.Steps.{indexOf}
+use Rattle.ready.specs.Private.{indexOf}
 use Rattle.ready.proofs.RowLaws.{size-read, remove-index, remove-stores}
 use Rattle.ready.proofs.ListLaws.{remove-clear, remove-same}
 use borrow.Author.Needs.{needs}

@@ -12,7 +12,7 @@ use Rattle.base.specs.Tests.{all, zeros}
 use Rattle.base.proofs.TestLaws.{false-true}
 use Rattle.ready.specs.Lists.{rowAt, members}
 use Rattle.ready.specs.Sound.{soundRows}
-use Rattle.ready.specs.Steps.{struck, RowStruck}
+use Rattle.ready.specs.Private.{struck, RowStruck}
 use Rattle.ready.proofs.Soundness.{rows-true, true-rows}
 use Rattle.ready.proofs.StrikeLaws.{From, rowTests, never-true, same-test, struck-length, from-tests, from-next, from-back, from-start, start-from, from-end, end-from}
 use Rattle.ready.proofs.sound_rows.Statement.{statement}

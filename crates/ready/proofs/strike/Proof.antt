@@ -6,7 +6,7 @@ use native.Mathlib.Omega.{arith}
 use borrow.Author.Needs.{needs}
 use lib.ListN.{length, drop, getD, length-set, drop-of-length-le, List·getD-eq-default}
 use Rattle.base.proofs.TestLaws.{false-true}
-use Rattle.ready.specs.Steps.{strikes, struck}
+use Rattle.ready.specs.Private.{strikes, struck}
 use Rattle.ready.proofs.StepLaws.{strikes-here, strikes-next, struck-next}
 use Rattle.ready.proofs.strike.Statement.{statement}
 use Rattle.ready.proofs.strike.Tie as tie

@@ -11,7 +11,7 @@ use borrow.Author.Tests.{lt-leb, le-leb, not-true, not-false}
 use Rattle.base.specs.Tests.{all, zeros}
 use Rattle.base.proofs.TestLaws.{all-false, all-one, false-true}
 use Rattle.ready.specs.Lists.{size, members, unused}
-use Rattle.ready.specs.Steps.{strikes, struck, Struck, RowStruck}
+use Rattle.ready.specs.Private.{strikes, struck, Struck, RowStruck}
 use borrow.Author.Needs.{needs}
 use Rattle.ready.proofs.strike_row.Statement.{statement}
 use Rattle.ready.proofs.strike_row.Tie as tie

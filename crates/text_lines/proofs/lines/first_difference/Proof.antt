@@ -5,7 +5,8 @@ use mathlib.Core.List.{List}
 use native.Mathlib.Omega.{arith}
 use lib.ListN.{length, getD}
 use borrow.Author.Tests.{eq-eqb, ne-eqb}
-use Rattle.text_lines.specs.Lines.{newline, firstDifference}
+use Rattle.text_lines.specs.Lines.{firstDifference}
+use Rattle.text.specs.Fields.{newline}
 use Rattle.text_lines.proofs.LineLaws.{differs, goes-on, stops-at, is-missing, is-surplus, is-same}
 use Rattle.text_lines.proofs.lines.first_difference.Statement.{statement}
 use Rattle.text_lines.proofs.lines.first_difference.Tie as tie

@@ -1,4 +1,4 @@
--- What the private functions compute. No public contract cites a definition of this file.
+-- What the private functions compute, and they alone cite: no public contract does.
 use mathlib.Core.Path.{_≡_}
 use mathlib.Core.Bool.{Bool, true, false, cond}
 use mathlib.Core.List.{List, [], _∷_, _++_}
