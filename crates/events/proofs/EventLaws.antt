@@ -17,9 +17,10 @@ use Rattle.ready.specs.Word.{occupancy}
 use Rattle.ready.proofs.Soundness.{ListsSound}
 use Rattle.ready.proofs.SoundLaws.{withPlace, sound-same, append-sound, remove-sound, move-sound}
 use Rattle.base.proofs.RefusalLaws.{passed}
-use Rattle.state.specs.declared.Thread.{Thread}
+use Rattle.thread.specs.declared.Thread.{Thread}
 use Rattle.state.specs.declared.State.{State}
-use Rattle.state.specs.State.{isBlocked, threadAt, pendingAt, accountAt, assigned, placeOf, place}
+use Rattle.state.specs.State.{threadAt, pendingAt, accountAt, place}
+use Rattle.thread.specs.Thread.{isBlocked, assigned, placeOf, renewed, withServer}
 use Rattle.rows.proofs.RowLaws.{row-length}
 use Rattle.state.proofs.SoundLaws.{blocked-most, ThreadSound, Sound}
 use Rattle.state.proofs.SoundLaws.ThreadSound.{absent, fifo, rr, sporadic}
@@ -30,7 +31,6 @@ use Rattle.moments.proofs.ChargeLaws.{runs}
 use Rattle.moments.proofs.FireLaws.{bounds-same}
 use Rattle.events.specs.declared.Change.{Change}
 use Rattle.events.specs.Events.{newAccount, changeOf, shifted, withChange, concerned, eventChange, happened}
-use Rattle.state.specs.Updates.{renewed, withServer}
 use Rattle.events.specs.Answers.{fieldStatusOf, stateStatusOf, fieldStatus, stateStatus}
 use Rattle.events.proofs.FitLaws.{Fits, block-fits, quantum-fits, wake-fits, set-fits}
 

@@ -18,13 +18,12 @@ use Rattle.account.specs.Rules.{blocking, waking}
 use Rattle.sporadic.specs.Rules.{wakeEffect}
 use Rattle.account.specs.Sound.{runsUpper}
 use Rattle.account_laws.proofs.SoundLaws.{AccountSound, Sent, block-sound, wake-upper, wake-low, fresh-sound, upper-room}
-use Rattle.state.specs.declared.Thread.{Thread}
-use Rattle.state.specs.State.{isBlocked, assigned}
+use Rattle.thread.specs.declared.Thread.{Thread}
+use Rattle.thread.specs.Thread.{isBlocked, assigned, fullQuantum, renewed, withBlocked, withServer}
 use Rattle.state.proofs.SoundLaws.{ThreadSound, range-out, fifo-out, rr-out, sporadic-out}
 use Rattle.state.proofs.SoundLaws.ThreadSound.{absent, fifo, rr, sporadic}
 use Rattle.ticks.proofs.RunLaws.{by-zero, by-one, by-two}
 use Rattle.events.specs.Events.{ifSporadic, noAccount, newAccount}
-use Rattle.state.specs.Updates.{fullQuantum, renewed, withBlocked, withServer}
 
 -- a thread and an account that fit a place of a sound state
 pub record Fits (start now : ℕ) (b : Bool) (t : Thread) (a : Account) : Type 0 where

@@ -20,10 +20,11 @@ use Rattle.ready.proofs.Soundness.{ListsSound}
 use Rattle.ready.proofs.SoundLaws.{withPlace, sound-same, append-sound, empty-sound}
 use Rattle.passing.specs.Sequence.{Answer, accepted}
 use Rattle.base.proofs.RefusalLaws.{passed}
-use Rattle.state.specs.declared.Thread.{Thread}
+use Rattle.thread.specs.declared.Thread.{Thread}
 use Rattle.state.specs.declared.State.{State}
 use Rattle.rows.specs.Rows.{slotsAt}
-use Rattle.state.specs.State.{noThread, threadAt, pendingAt, assigned, placeOf, place}
+use Rattle.state.specs.State.{threadAt, pendingAt, place}
+use Rattle.thread.specs.Thread.{noThread, assigned, placeOf, renewed, withBlocked, withServer}
 use Rattle.state.specs.Sound.{totals, soundState}
 use Rattle.rows.proofs.RowLaws.{row-length}
 use Rattle.state.proofs.SoundLaws.{noPending, ThreadSound, Sound, state-in}
@@ -31,7 +32,7 @@ use Rattle.state.proofs.SoundLaws.ThreadSound.{absent, fifo, rr, sporadic}
 use Rattle.moments.proofs.ChangeLaws.{withBound, totals-set, changed-at}
 use Rattle.moments.proofs.FireLaws.{bounds-same}
 use Rattle.events.specs.Events.{newAccount}
-use Rattle.state.specs.Updates.{renewed, withHeader, withLists, withAccount, withBlocked, withServer}
+use Rattle.state.specs.Updates.{withHeader, withLists, withAccount}
 use Rattle.events.specs.Answers.{executive}
 use Rattle.events.specs.Opening.{emptyState, noState, withoutFlag, entered, enteredBelow, openStatus, opening}
 use Rattle.events.proofs.FitLaws.{Fits, set-fits}

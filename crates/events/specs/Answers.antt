@@ -9,7 +9,8 @@ use Rattle.base.specs.Status.{wrongKind, wrongThread, wrongParameters, nothingR
 use Rattle.base.specs.Refusals.{firstRefusal}
 use Rattle.passing.specs.Sequence.{Machine}
 use Rattle.state.specs.declared.State.{State}
-use Rattle.state.specs.State.{isBlocked, threadAt}
+use Rattle.state.specs.State.{threadAt}
+use Rattle.thread.specs.Thread.{isBlocked}
 use Rattle.state.specs.Sound.{soundState}
 use Rattle.ticks.specs.Running.{idles, running}
 use Rattle.moments.specs.Moments.{clock}

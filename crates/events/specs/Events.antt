@@ -12,10 +12,11 @@ use Rattle.account.specs.declared.Account.{Account}
 use Rattle.account.specs.Account.{entries, freshAccount}
 use Rattle.account.specs.Rules.{blocking, waking}
 use Rattle.ready.specs.Lists.{appended, removed, moved}
-use Rattle.state.specs.declared.Thread.{Thread}
+use Rattle.thread.specs.declared.Thread.{Thread}
 use Rattle.state.specs.declared.State.{State}
-use Rattle.state.specs.State.{noServer, threadAt, accountAt, placeOf}
-use Rattle.state.specs.Updates.{withLists, withAccount, withBlocked, withServer, fullQuantum, renewed}
+use Rattle.state.specs.State.{threadAt, accountAt}
+use Rattle.thread.specs.Thread.{noServer, placeOf, withBlocked, withServer, fullQuantum, renewed}
+use Rattle.state.specs.Updates.{withLists, withAccount}
 use Rattle.ticks.specs.Running.{head}
 use Rattle.events.specs.declared.Change.{Change}
 

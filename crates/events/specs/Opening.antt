@@ -14,9 +14,10 @@ use Rattle.base.specs.Refusals.{firstRefusal}
 use Rattle.rows.specs.Rows.{allSlots}
 use Rattle.passing.specs.Sequence.{Answer, accepted}
 use Rattle.state.specs.declared.State.{State}
-use Rattle.state.specs.State.{noThread, threadAt}
+use Rattle.state.specs.State.{threadAt}
+use Rattle.thread.specs.Thread.{noThread, renewed, withBlocked}
 use Rattle.events.specs.Events.{newAccount}
-use Rattle.state.specs.Updates.{renewed, withLists, withAccount, withBlocked, stateOf}
+use Rattle.state.specs.Updates.{withLists, withAccount, stateOf}
 use Rattle.events.specs.Answers.{executive}
 
 -- a state of so many threads, none of them there yet, at the start time

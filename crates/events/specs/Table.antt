@@ -12,7 +12,8 @@ use Rattle.ready.specs.Lists.{threads, occurs}
 use Rattle.passing.specs.Sequence.{Answer, answers}
 use Rattle.state.specs.declared.State.{State}
 use Rattle.records.specs.Ranges.{noParameters}
-use Rattle.state.specs.State.{threadAt, pendingAt, assigned}
+use Rattle.state.specs.State.{threadAt, pendingAt}
+use Rattle.thread.specs.Thread.{assigned}
 use Rattle.events.specs.Answers.{executive, reading}
 use Rattle.events.specs.Opening.{opening}
 

@@ -6,7 +6,7 @@ use native.Mathlib.Omega.{arith}
 use Rattle.records.specs.declared.Parameters.{Parameters}
 use Rattle.account.specs.declared.Account.{Account}
 use Rattle.ready.specs.Lists.{appended, removed, moved}
-use Rattle.state.specs.declared.Thread.{Thread}
+use Rattle.thread.specs.declared.Thread.{Thread}
 use Rattle.events.specs.Events.{changeOf, shifted}
 
 module _ (kind now : ℕ) (p : Parameters) (t : Thread) (a : Account) where

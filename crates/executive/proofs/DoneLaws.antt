@@ -15,12 +15,13 @@ use Rattle.ready.specs.Lists.{headOf}
 use Rattle.ready.specs.Word.{occupancy}
 use Rattle.ready.specs.Rules.{Leavable, Joinable, Movable}
 use Rattle.ready.proofs.SoundLaws.{leavable, joinable, movable}
-use Rattle.state.specs.declared.Thread.{Thread}
+use Rattle.thread.specs.declared.Thread.{Thread}
 use Rattle.state.specs.declared.State.{State}
 use Rattle.rows.specs.Rows.{withSlots}
 use Rattle.state.specs.State.{threadAt, pendingAt, accountAt, place}
 use Rattle.state.specs.Sound.{soundState}
-use Rattle.state.specs.Updates.{withLists, withAccount, withServer, stateOf}
+use Rattle.state.specs.Updates.{withLists, withAccount, stateOf}
+use Rattle.thread.specs.Thread.{withServer}
 use Rattle.state.proofs.SoundLaws.{state-out}
 use Rattle.ticks.specs.Running.{level, head, idles}
 use Rattle.events.specs.declared.Change.{Change}

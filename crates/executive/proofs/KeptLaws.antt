@@ -14,9 +14,10 @@ use Rattle.base.proofs.TestLaws.{cond-false}
 use Rattle.account.specs.declared.Pending.{Pending}
 use Rattle.ready.proofs.SoundLaws.{highest-sound, idle}
 use Rattle.passing.proofs.TimeLaws.{keeps, sound-advance}
-use Rattle.state.specs.declared.Thread.{Thread}
+use Rattle.thread.specs.declared.Thread.{Thread}
 use Rattle.state.specs.declared.State.{State}
-use Rattle.state.specs.State.{isBlocked, noThread, threadAt, assigned, place}
+use Rattle.state.specs.State.{threadAt, place}
+use Rattle.thread.specs.Thread.{isBlocked, noThread, assigned}
 use Rattle.state.specs.Sound.{soundState}
 use Rattle.state.proofs.SoundLaws.{ThreadSound, Sound, state-out}
 use Rattle.state.proofs.SoundLaws.ThreadSound.{absent, fifo, rr, sporadic}

@@ -20,11 +20,12 @@ use Rattle.ready.specs.Rules.{Joinable}
 use Rattle.ready.proofs.SoundLaws.{joinable}
 use Rattle.base.specs.Refusals.{firstRefusal}
 use Rattle.base.proofs.RefusalLaws.{passed}
-use Rattle.state.specs.declared.Thread.{Thread}
+use Rattle.thread.specs.declared.Thread.{Thread}
 use Rattle.state.specs.declared.State.{State}
-use Rattle.state.specs.State.{noThread, threadAt, place}
+use Rattle.state.specs.State.{threadAt, place}
+use Rattle.thread.specs.Thread.{noThread, renewed, withBlocked}
 use Rattle.events.specs.Events.{newAccount}
-use Rattle.state.specs.Updates.{renewed, withLists, withAccount, withBlocked, stateOf}
+use Rattle.state.specs.Updates.{withLists, withAccount, stateOf}
 use Rattle.events.specs.Opening.{emptyState, noState, withoutFlag, entered, enteredBelow, openStatus, opening}
 use Rattle.events.proofs.EventLaws.{and-both}
 use Rattle.events.proofs.OpeningLaws.{Entered, unplaced, below-entered, opened-sound}

@@ -10,9 +10,10 @@ use Rattle.account.specs.declared.Pending.{Pending}
 use Rattle.account.specs.Rules.{Schedulable}
 use Rattle.account.specs.Sound.{runsUpper}
 use Rattle.account_laws.proofs.SoundLaws.{AccountSound, upper-room}
-use Rattle.state.specs.declared.Thread.{Thread}
+use Rattle.thread.specs.declared.Thread.{Thread}
 use Rattle.state.specs.declared.State.{State}
-use Rattle.state.specs.State.{isBlocked, threadAt, pendingAt}
+use Rattle.state.specs.State.{threadAt, pendingAt}
+use Rattle.thread.specs.Thread.{isBlocked}
 use Rattle.state.specs.Sound.{soundState}
 use Rattle.state.proofs.SoundLaws.{ThreadSound, Sound, state-out}
 use Rattle.state.proofs.SoundLaws.ThreadSound.{absent, fifo, rr, sporadic}

@@ -5,10 +5,11 @@ use mathlib.Core.List.{List}
 use lib.ListN as lists
 use Rattle.account.specs.declared.Account.{Account}
 use Rattle.ready.specs.Word.{occupancy}
-use Rattle.state.specs.declared.Thread.{Thread}
+use Rattle.thread.specs.declared.Thread.{Thread}
 use Rattle.state.specs.declared.State.{State}
 use Rattle.rows.specs.Rows.{withSlots}
-use Rattle.state.specs.Updates.{withLists, withAccount, withServer, stateOf}
+use Rattle.state.specs.Updates.{withLists, withAccount, stateOf}
+use Rattle.thread.specs.Thread.{withServer}
 
 module _ (s : State) where
   -- another thread and account at place i

@@ -18,7 +18,8 @@ use Rattle.passing.proofs.SequenceLaws.{answer-accepted, answer-refused, unsoun
 use Rattle.base.proofs.RefusalLaws as refusals
 use Rattle.base.proofs.RefusalLaws.{past, given-zero, given-first, given-second, given-last, given-passed, status-at-most}
 use Rattle.state.specs.declared.State.{State}
-use Rattle.state.specs.State.{isBlocked, threadAt}
+use Rattle.state.specs.State.{threadAt}
+use Rattle.thread.specs.Thread.{isBlocked}
 use Rattle.state.specs.Sound.{soundState}
 use Rattle.state.proofs.SoundLaws.{state-in, state-out}
 use Rattle.ticks.specs.Running.{running, next, idles}

@@ -17,7 +17,7 @@ use events::Change;
 use ready::LIST_BYTES;
 use records::Event;
 use state::State;
-use state::Thread;
+use thread::Thread;
 
 // Another thread and account at place i.
 pub(super) fn put(s0: State, i: usize, t: Thread, a: Account) -> State
@@ -29,7 +29,7 @@ pub(super) fn put(s0: State, i: usize, t: Thread, a: Account) -> State
     let q = a.pending;
     let dues = q.dues;
     let amounts = q.amounts;
-    s.threads[i] = state::with_server(t, v);
+    s.threads[i] = thread::with_server(t, v);
     s.counts[i] = q.count;
     rows::write_row(&mut s.dues, i, dues);
     rows::write_row(&mut s.amounts, i, amounts);
@@ -51,12 +51,12 @@ fn change_to(t: Thread, a: Account, u: Thread, b: Account) -> Change
     ensures { λ r. ⌜ r ≡ becomes t a u b ⌝ }
 {
     let v = b.server;
-    let then = state::with_server(u, v);
+    let then = thread::with_server(u, v);
     Change {
         thread: u,
         account: b,
-        from: state::assigned_place(t, a.pending.count),
-        to: state::assigned_place(then, b.pending.count),
+        from: thread::assigned_place(t, a.pending.count),
+        to: thread::assigned_place(then, b.pending.count),
     }
 }
 
@@ -66,21 +66,21 @@ pub(super) fn change_of(e: Event, t: Thread, a: Account) -> Change
     ensures { λ r. ⌜ r ≡ changeOf (e .kind) (e .time) (e .parameters) t a ⌝ }
 {
     if e.kind == 1 {
-        let u = state::with_blocked(t, 1);
+        let u = thread::with_blocked(t, 1);
         let b = parts::after_block(e.time, t, a);
         return change_to(t, a, u, b);
     }
     if e.kind == 2 {
-        let u = state::full_quantum(t);
+        let u = thread::full_quantum(t);
         return change_to(t, a, u, a);
     }
     if e.kind == 3 {
-        let u = state::with_blocked(state::full_quantum(t), 0);
+        let u = thread::with_blocked(thread::full_quantum(t), 0);
         let b = parts::after_wake(e.time, t, a);
         return change_to(t, a, u, b);
     }
     let p = e.parameters;
-    let u = state::renew(p, t);
+    let u = thread::renew(p, t);
     let b = parts::new_account(e.time, p);
     change_to(t, a, u, b)
 }

@@ -15,7 +15,7 @@ use records::Parameters;
 use records::THREADS;
 use rows::SLOTS;
 use state::State;
-use state::Thread;
+use thread::Thread;
 
 mod answers; // answers.rt: who runs and when to ask again
 mod changes; // changes.rt: what an accepted event does to the state
@@ -154,7 +154,7 @@ fn answer_event(mut s: State, e: Event, known: bool) -> Answer
         let pending = b.pending;
         let dues = pending.dues;
         let amounts = pending.amounts;
-        let changed = state::with_server(u, served);
+        let changed = thread::with_server(u, served);
         s.threads[j] = changed;
         s.counts[j] = pending.count;
         rows::write_row(&mut s.dues, j, dues);

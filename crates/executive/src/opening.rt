@@ -20,7 +20,7 @@ use records::THREADS;
 use rows::SLOTS;
 use sporadic::Server;
 use state::State;
-use state::Thread;
+use thread::Thread;
 
 // A state of N threads in which none of them is there yet.
 pub(super) fn empty_state(header: Header) -> State
@@ -137,8 +137,8 @@ fn enter(s: State, k: u8, p: Parameters) -> State
     let i = base::wide(k);
     let q = without_flag(p);
     let none = s.threads[i];
-    let t = state::with_blocked(none, starts_blocked(p.flag));
-    let u = state::renew(q, t);
+    let t = thread::with_blocked(none, starts_blocked(p.flag));
+    let u = thread::renew(q, t);
     let b = parts::new_account(s.now, q);
     let mut r = changes::put(s, i, u, b);
     if p.flag == 0 {

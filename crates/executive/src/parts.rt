@@ -14,7 +14,7 @@ use records::Event;
 use records::Parameters;
 use records::THREADS;
 use sporadic::Server;
-use state::Thread;
+use thread::Thread;
 
 // A thread's number as an index that never strays; 0 where there is no such place.
 pub(super) fn index(x: u8) -> usize

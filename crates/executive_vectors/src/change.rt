@@ -4,7 +4,7 @@ use records::Parameters;
 use records::THREADS;
 use rows::SLOTS;
 use state::State;
-use state::Thread;
+use thread::Thread;
 
 pub(super) fn byte(value: u64) -> u8 {
     (value % 256) as u8

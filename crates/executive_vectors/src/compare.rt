@@ -4,7 +4,7 @@ use records::Parameters;
 use records::THREADS;
 use rows::SLOTS;
 use state::State;
-use state::Thread;
+use thread::Thread;
 
 fn same_parameters(a: Parameters, b: Parameters) -> bool {
     (a.policy == b.policy)

@@ -8,7 +8,7 @@ use records::THREADS;
 use rows::SLOTS;
 use sporadic::Server;
 use state::State;
-use state::Thread;
+use thread::Thread;
 
 pub(super) fn wide(x: u8) -> u64 {
     x as u64

@@ -19,10 +19,11 @@ use Rattle.ready.specs.Word.{occupancy}
 use Rattle.ready.specs.Rules.{Movable}
 use Rattle.passing.specs.Time.{dueBy}
 use Rattle.passing.proofs.TimeLaws.{due-true, due-false}
-use Rattle.state.specs.declared.Thread.{Thread}
+use Rattle.thread.specs.declared.Thread.{Thread}
 use Rattle.state.specs.declared.State.{State}
 use Rattle.rows.specs.Rows.{withSlots}
-use Rattle.state.specs.State.{isBlocked, threadAt, pendingAt, accountAt}
+use Rattle.state.specs.State.{threadAt, pendingAt, accountAt}
+use Rattle.thread.specs.Thread.{isBlocked, withLeft, withServer}
 use Rattle.rows.proofs.RowLaws.{row-length, row-first}
 use Rattle.ticks.specs.declared.Due.{Due}
 use Rattle.ticks.proofs.EarlierLaws.{earlier-left}
@@ -35,7 +36,7 @@ use Rattle.moments.proofs.ChargeLaws.{limit-later}
 use Rattle.moments.proofs.TurnLaws.{firstOf, first-later, Going, weight, turn-rest, turn-limit, due-some, not-past, charged-going, turn-due}
 use Rattle.moments.proofs.SeenLaws.{Seen, seen-head, seen-at, seen-small, seen-limit, seen-next, charge-fits, charge-place}
 use Rattle.moments.proofs.StepLaws.{Sendable, limit-not-upper, limit-runs, limit-thread, quantum-movable, quantum-is, limited-present, limited-is, limited-requires, limited-sendable, due-sendable}
-use Rattle.state.specs.Updates.{withLeft, withServer, stateOf}
+use Rattle.state.specs.Updates.{stateOf}
 
 -- ticks charged in place: the time, the idle time, and thread i
 abbrev pub withTicks : ℕ → ℕ → ℕ → Thread → State → State

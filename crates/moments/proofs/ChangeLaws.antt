@@ -15,14 +15,15 @@ use Rattle.account.specs.declared.Account.{Account}
 use Rattle.ready.specs.Word.{occupancy}
 use Rattle.ready.proofs.Soundness.{ListsSound}
 use Rattle.ready.proofs.SoundLaws.{withPlace, sound-same}
-use Rattle.state.specs.declared.Thread.{Thread}
+use Rattle.thread.specs.declared.Thread.{Thread}
 use Rattle.state.specs.declared.State.{State}
 use Rattle.rows.specs.Rows.{slotsAt, withSlots}
-use Rattle.state.specs.State.{noThread, threadAt, pendingAt, placeOf, place}
+use Rattle.state.specs.State.{threadAt, pendingAt, place}
+use Rattle.thread.specs.Thread.{noThread, placeOf, withServer}
 use Rattle.state.specs.Sound.{totals}
 use Rattle.rows.proofs.RowLaws.{row-same}
 use Rattle.state.proofs.SoundLaws.{ThreadSound, SoundFrom, sizeTests}
-use Rattle.state.specs.Updates.{withThread, withLists, withAccount, withServer, stateOf}
+use Rattle.state.specs.Updates.{withThread, withLists, withAccount, stateOf}
 
 -- ---- rows
 

@@ -22,10 +22,11 @@ use Rattle.sporadic.proofs.ChargeLaws as account
 use Rattle.account_laws.proofs.SoundLaws.{AccountSound, time-passes, charge-sound, upper-room}
 use Rattle.ready.specs.Word.{highestOf}
 use Rattle.ready.proofs.SoundLaws.{sound-same, highest-sound}
-use Rattle.state.specs.declared.Thread.{Thread}
+use Rattle.thread.specs.declared.Thread.{Thread}
 use Rattle.state.specs.declared.State.{State}
 use Rattle.rows.specs.Rows.{slotsAt}
-use Rattle.state.specs.State.{isBlocked, noThread, threadAt, pendingAt, assigned, placeOf, place}
+use Rattle.state.specs.State.{threadAt, pendingAt, place}
+use Rattle.thread.specs.Thread.{isBlocked, noThread, assigned, placeOf}
 use Rattle.state.proofs.SoundLaws.{ThreadSound, SoundFrom, Sound}
 use Rattle.state.proofs.SoundLaws.ThreadSound.{absent, fifo, rr, sporadic}
 use Rattle.ticks.specs.declared.Due.{Due}

@@ -27,9 +27,10 @@ use Rattle.ready.specs.Lists.{moved}
 use Rattle.ready.specs.Word.{occupancy}
 use Rattle.ready.proofs.Soundness.{ListsSound}
 use Rattle.ready.proofs.SoundLaws.{withPlace, sound-same, move-sound}
-use Rattle.state.specs.declared.Thread.{Thread}
+use Rattle.thread.specs.declared.Thread.{Thread}
 use Rattle.state.specs.declared.State.{State}
-use Rattle.state.specs.State.{isBlocked, threadAt, pendingAt, accountAt, placeOf, place}
+use Rattle.state.specs.State.{threadAt, pendingAt, accountAt, place}
+use Rattle.thread.specs.Thread.{isBlocked, placeOf, withServer}
 use Rattle.state.proofs.SoundLaws.{noPending, ThreadSound, SoundFrom, Sound, SporadicTests}
 use Rattle.state.proofs.SoundLaws.ThreadSound.{absent, fifo, rr, sporadic}
 use Rattle.ticks.specs.Running.{level, head, idles}
@@ -37,7 +38,7 @@ use Rattle.ticks.proofs.RunLaws.{by-two}
 use Rattle.moments.specs.Changes.{sentTo, withEffect}
 use Rattle.moments.specs.Moments.{quantumEnded, limitsOf, limits, firstReturned, replenish, replenishBelow, fire}
 use Rattle.moments.proofs.ChangeLaws.{withBound, changed}
-use Rattle.state.specs.Updates.{withLists, withAccount, withServer}
+use Rattle.state.specs.Updates.{withLists, withAccount}
 
 -- other bounds that are the same below 32
 pub bounds-same : (lo lo′ : ℕ → ℕ) (s : State) → SoundFrom lo s → ((i : ℕ) → i < 32 → lo′ i ≡ lo i) → SoundFrom lo′ s

@@ -26,10 +26,11 @@ use Rattle.ready.specs.Lists.{moved}
 use Rattle.ready.specs.Word.{occupancy}
 use Rattle.ready.proofs.Soundness.{ListsSound}
 use Rattle.ready.proofs.SoundLaws.{withPlace, sound-same, move-sound}
-use Rattle.state.specs.declared.Thread.{Thread}
+use Rattle.thread.specs.declared.Thread.{Thread}
 use Rattle.state.specs.declared.State.{State}
 use Rattle.rows.specs.Rows.{slotsAt}
-use Rattle.state.specs.State.{isBlocked, noServer, noThread, threadAt, pendingAt, accountAt, assigned, placeOf, place}
+use Rattle.state.specs.State.{threadAt, pendingAt, accountAt, place}
+use Rattle.thread.specs.Thread.{isBlocked, noServer, noThread, assigned, placeOf, withLeft, withServer}
 use Rattle.rows.proofs.RowLaws.{row-length}
 use Rattle.state.proofs.SoundLaws.{noPending, ThreadSound, SoundFrom, sizeTests, RrTests, SporadicTests}
 use Rattle.state.proofs.SoundLaws.ThreadSound.{absent, fifo, rr, sporadic}
@@ -39,7 +40,7 @@ use Rattle.moments.specs.Changes.{sentTo, withEffect}
 use Rattle.moments.specs.Moments.{limitsOf, limits}
 use Rattle.moments.proofs.ChangeLaws.{withBound, totals-set, changed-at, thread-account}
 use Rattle.moments.proofs.ChargeLaws.{Runs, runs, upper-at, ran-upper, first-bound, wait-thread}
-use Rattle.state.specs.Updates.{withLists, withLeft, withAccount, withServer, stateOf}
+use Rattle.state.specs.Updates.{withLists, withAccount, stateOf}
 
 -- ---- nothing happens where nothing is used up
 

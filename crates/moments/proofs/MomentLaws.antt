@@ -11,7 +11,7 @@ use Rattle.records.specs.Ranges.{byPolicy}
 use Rattle.base.proofs.TestLaws.{cond-true, cond-false, false-true}
 use Rattle.passing.specs.Time.{moment}
 use Rattle.passing.proofs.TimeLaws.{Laws}
-use Rattle.state.specs.declared.Thread.{Thread}
+use Rattle.thread.specs.declared.Thread.{Thread}
 use Rattle.state.specs.declared.State.{State}
 use Rattle.rows.specs.Rows.{slotsAt}
 use Rattle.state.specs.State.{threadAt, pendingAt}

@@ -15,9 +15,10 @@ use Rattle.account.specs.declared.Pending.{Pending}
 use Rattle.ready.specs.Lists.{headOf}
 use Rattle.ready.specs.Rules.{Held}
 use Rattle.ready.proofs.SoundLaws.{highest-sound}
-use Rattle.state.specs.declared.Thread.{Thread}
+use Rattle.thread.specs.declared.Thread.{Thread}
 use Rattle.state.specs.declared.State.{State}
-use Rattle.state.specs.State.{noThread, threadAt, pendingAt, place}
+use Rattle.state.specs.State.{threadAt, pendingAt, place}
+use Rattle.thread.specs.Thread.{noThread}
 use Rattle.state.specs.Sound.{totals}
 use Rattle.state.proofs.SoundLaws.{ThreadSound, SoundFrom}
 use Rattle.state.proofs.SoundLaws.ThreadSound.{absent, fifo, rr, sporadic}

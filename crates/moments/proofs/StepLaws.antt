@@ -26,9 +26,10 @@ use Rattle.ready.specs.Lists.{moved}
 use Rattle.ready.specs.Word.{occupancy}
 use Rattle.ready.specs.Rules.{Movable}
 use Rattle.ready.proofs.SoundLaws.{withPlace, movable, move-sound}
-use Rattle.state.specs.declared.Thread.{Thread}
+use Rattle.thread.specs.declared.Thread.{Thread}
 use Rattle.state.specs.declared.State.{State}
-use Rattle.state.specs.State.{isBlocked, noThread, threadAt, pendingAt, accountAt, assigned, place}
+use Rattle.state.specs.State.{threadAt, pendingAt, accountAt, place}
+use Rattle.thread.specs.Thread.{isBlocked, noThread, assigned}
 use Rattle.state.proofs.SoundLaws.{ThreadSound, SoundFrom, SporadicTests}
 use Rattle.state.proofs.SoundLaws.ThreadSound.{absent, fifo, rr, sporadic}
 use Rattle.ticks.specs.Running.{level, head, idles, ran, charge, limitOf, limit, next}

@@ -25,10 +25,11 @@ use Rattle.account.proofs.ReturnLaws.{first-counted}
 use Rattle.account.specs.Sound.{sum}
 use Rattle.passing.specs.Time.{dueBy}
 use Rattle.passing.proofs.TimeLaws.{due-false, due-yes, advance-rest, advance-due}
-use Rattle.state.specs.declared.Thread.{Thread}
+use Rattle.thread.specs.declared.Thread.{Thread}
 use Rattle.state.specs.declared.State.{State}
 use Rattle.rows.specs.Rows.{slotsAt}
-use Rattle.state.specs.State.{isBlocked, noThread, threadAt, pendingAt, accountAt}
+use Rattle.state.specs.State.{threadAt, pendingAt, accountAt}
+use Rattle.thread.specs.Thread.{isBlocked, noThread}
 use Rattle.rows.proofs.RowLaws.{row-length, row-first}
 use Rattle.state.proofs.SoundLaws.{SoundFrom, Sound, state-in}
 use Rattle.ticks.specs.declared.Due.{Due}

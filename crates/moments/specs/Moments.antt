@@ -8,12 +8,13 @@ use Rattle.account.specs.Rules.{firstIsDue, returnFirst}
 use Rattle.sporadic.specs.Rules.{limitEffect}
 use Rattle.ready.specs.Lists.{moved}
 use Rattle.passing.specs.Time.{Clock, advance}
-use Rattle.state.specs.declared.Thread.{Thread}
+use Rattle.thread.specs.declared.Thread.{Thread}
 use Rattle.state.specs.declared.State.{State}
-use Rattle.state.specs.State.{isBlocked, threadAt, pendingAt, accountAt}
+use Rattle.state.specs.State.{threadAt, pendingAt, accountAt}
+use Rattle.thread.specs.Thread.{isBlocked, withLeft}
 use Rattle.ticks.specs.Running.{level, head, idles, charge, next}
 use Rattle.moments.specs.Changes.{withEffect}
-use Rattle.state.specs.Updates.{withThread, withLists, withLeft}
+use Rattle.state.specs.Updates.{withThread, withLists}
 
 -- 01 Passing 7: the quantum has ended: the tail of its list p, with a full quantum
 abbrev pub quantumEnded : ℕ → ℕ → Thread → State → State

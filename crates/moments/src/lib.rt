@@ -13,11 +13,10 @@ ghost use Rattle.ready.specs.Word.{occupancy};
 ghost use Rattle.ready.specs.Rules.{Movable};
 ghost use Rattle.rows.specs.Rows.{allSlots, slotsAt, withSlots};
 ghost use Rattle.state.specs.Sound.{soundState};
-ghost use Rattle.state.specs.State.{isBlocked};
+ghost use Rattle.thread.specs.Thread.{isBlocked, withLeft};
 ghost use Rattle.ticks.specs.Running.{earlier};
 ghost use Rattle.moments.specs.Changes.{sentTo};
 ghost use Rattle.moments.specs.Moments.{passed};
-ghost use Rattle.state.specs.Updates.{withLeft};
 use account::ENTRIES;
 use base::wide;
 use ready::LIST_BYTES;
@@ -26,7 +25,7 @@ use rows::SLOTS;
 use sporadic::Effect;
 use sporadic::Place;
 use state::State;
-use state::Thread;
+use thread::Thread;
 
 // Whether the earlier of the two is the limit: where both fall on one instant, the limit comes first.
 fn limit_first(limit: u64, due: u64) -> bool
@@ -46,7 +45,7 @@ fn with_full_quantum(t: Thread) -> Thread
     ensures { λ r. ⌜ r ≡ withLeft (t .parameters .budget) t ⌝ }
 {
     let p = t.parameters;
-    state::with_left(t, p.budget)
+    thread::with_left(t, p.budget)
 }
 
 // Thread i goes where an account's rule sends it; the answer is the word of the lists as they then are.
@@ -184,7 +183,7 @@ pub fn advance(s0: State, t: u64) -> State
         let parameters = w.parameters;
         let word = s.word;
         let number = narrow(j);
-        let changed = state::with_server(w, served);
+        let changed = thread::with_server(w, served);
         s.threads[j] = changed;
         s.word = send(&mut s.lists, word, number, parameters, place);
         let pending = account::count_after(first, amount, count);

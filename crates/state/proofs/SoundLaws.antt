@@ -17,9 +17,10 @@ use Rattle.account.specs.Sound.{soundAt, runsUpper}
 use Rattle.account_laws.proofs.SoundLaws.{AccountSound, sound-in, sound-out}
 use Rattle.ready.proofs.Soundness.{ListsSound, sound-true, true-sound}
 use Rattle.rows.proofs.RowLaws.{row-length}
-use Rattle.state.specs.declared.Thread.{Thread}
+use Rattle.thread.specs.declared.Thread.{Thread}
 use Rattle.state.specs.declared.State.{State}
-use Rattle.state.specs.State.{isBlocked, noServer, noThread, threadAt, pendingAt, place}
+use Rattle.state.specs.State.{threadAt, pendingAt, place}
+use Rattle.thread.specs.Thread.{isBlocked, noServer, noThread}
 use Rattle.state.specs.Sound.{noAccountTests, leftTests, accountTest, presentTest, absentTest, threadTest, totals, soundTests, soundState}
 
 -- nothing pending

@@ -64,22 +64,6 @@ below-false n f i h e = go (below n f) refl
     go true q = sym (below-at n f q i h) ∙ e
     go false q = refl
 
--- the policies that are not sporadic, and those that are not RR
-pub policy-low : {A : Type 0} (c : ℕ) (x y : A) → c < 2 → byPolicy c x x y ≡ x
-policy-low zero x y h = refl
-policy-low (suc zero) x y h = refl
-policy-low (suc (suc c)) x y h = absurd (omega arith)
-
-pub policy-sporadic : {A : Type 0} (c : ℕ) (x y z : A) → 2 ≤ c → byPolicy c x y z ≡ z
-policy-sporadic zero x y z h = absurd (omega arith)
-policy-sporadic (suc zero) x y z h = absurd (omega arith)
-policy-sporadic (suc (suc c)) x y z h = refl
-
-pub policy-not-rr : {A : Type 0} (c : ℕ) (x y : A) → (c ≡ 1 → ⊥) → byPolicy c x y x ≡ x
-policy-not-rr zero x y h = refl
-policy-not-rr (suc zero) x y h = absurd (h refl)
-policy-not-rr (suc (suc c)) x y h = refl
-
 -- two comparisons that say the same
 pub eqb-same : (a b c d : ℕ) → (a ≡ b → c ≡ d) → (c ≡ d → a ≡ b) → eqb a b ≡ eqb c d
 eqb-same a b c d f g = go (eqb a b) refl

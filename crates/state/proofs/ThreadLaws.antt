@@ -10,8 +10,8 @@ use native.Mathlib.Numerals.{add-one}
 use native.Mathlib.Omega.{arith}
 use borrow.Author.Tests.{ltb-true, ltb-false}
 use borrow.Author.Count.{below-more}
-use Rattle.state.specs.declared.Thread.{Thread}
-use Rattle.state.specs.State.{noThread, placeOf}
+use Rattle.thread.specs.declared.Thread.{Thread}
+use Rattle.thread.specs.Thread.{noThread, placeOf}
 use Rattle.state.specs.Sound.{totals}
 
 -- the run times from thread i on

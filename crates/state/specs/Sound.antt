@@ -11,9 +11,10 @@ use Rattle.account.specs.declared.Pending.{Pending}
 use Rattle.account.specs.Sound.{soundAt}
 use Rattle.ready.specs.Sound.{soundLists}
 use Rattle.rows.specs.Rows.{allSlots}
-use Rattle.state.specs.declared.Thread.{Thread}
+use Rattle.thread.specs.declared.Thread.{Thread}
 use Rattle.state.specs.declared.State.{State}
-use Rattle.state.specs.State.{isBlocked, threadAt, pendingAt, place}
+use Rattle.state.specs.State.{threadAt, pendingAt, place}
+use Rattle.thread.specs.Thread.{isBlocked}
 
 -- 01 State 17: no capacity, no U and no activation time
 abbrev pub serverTests : Server → List Bool

@@ -1,47 +1,14 @@
--- A state and a thread made of their parts, and with one part changed. No other file lists all their fields.
+-- A state made of its parts, and with one part changed. No other file lists all its fields.
 use Prim.Native.Nat.{ℕ}
 use mathlib.Core.List.{List}
 use lib.ListN.{set}
-use Rattle.records.specs.declared.Parameters.{Parameters}
 use Rattle.records.specs.declared.Header.{Header}
-use Rattle.records.specs.Ranges.{byPolicy}
-use Rattle.sporadic.specs.declared.Server.{Server}
 use Rattle.account.specs.declared.Account.{Account}
 use Rattle.ready.specs.Word.{occupancy}
 use Rattle.rows.specs.Rows.{withSlots}
-use Rattle.state.specs.declared.Thread.{Thread}
+use Rattle.thread.specs.declared.Thread.{Thread}
+use Rattle.thread.specs.Thread.{withServer}
 use Rattle.state.specs.declared.State.{State}
-
-abbrev pub threadOf : Parameters → ℕ → ℕ → ℕ → Server → Thread
-threadOf p blocked total left v = record { parameters = p; blocked = blocked; total = total; left = left; server = v }
-
-abbrev pub withParameters : Parameters → Thread → Thread
-withParameters p t = threadOf p (t .blocked) (t .total) (t .left) (t .server)
-
--- blocked (1) or runnable (0)
-abbrev pub withBlocked : ℕ → Thread → Thread
-withBlocked b t = threadOf (t .parameters) b (t .total) (t .left) (t .server)
-
-abbrev pub withTotal : ℕ → Thread → Thread
-withTotal n t = threadOf (t .parameters) (t .blocked) n (t .left) (t .server)
-
-abbrev pub withLeft : ℕ → Thread → Thread
-withLeft n t = threadOf (t .parameters) (t .blocked) (t .total) n (t .server)
-
-abbrev pub withServer : Server → Thread → Thread
-withServer v t = threadOf (t .parameters) (t .blocked) (t .total) (t .left) v
-
--- another run time, quantum left and server
-abbrev pub withRun : ℕ → ℕ → Server → Thread → Thread
-withRun total left v t = threadOf (t .parameters) (t .blocked) total left v
-
--- 01 Events 4 and 5: an RR thread gets a full quantum
-abbrev pub fullQuantum : Thread → Thread
-fullQuantum t = withLeft (byPolicy (t .parameters .policy) (t .left) (t .parameters .budget) (t .left)) t
-
--- 01 Events 6: everything anew with the parameters p; the thread stays blocked or runnable and keeps its run time
-abbrev pub renewed : Parameters → Thread → Thread
-renewed p t = withParameters p (withLeft (byPolicy (p .policy) 0 (p .budget) 0) t)
 
 abbrev pub stateOf : Header → ℕ → ℕ → ℕ → List Thread → List ℕ → List ℕ → List ℕ → List ℕ → State
 stateOf header now idle word threads counts dues amounts lists =

@@ -7,7 +7,7 @@ ghost use Rattle.base.specs.Tests.{all, zeros};
 ghost use Rattle.records.specs.Ranges.{mostThreads};
 ghost use Rattle.rows.specs.Rows.{allSlots, slotsAt, pendingOf};
 ghost use Rattle.state.specs.Sound.{serverTests, leftTests, presentFields, absentFields, presenceTest};
-use super::Thread;
+use thread::Thread;
 use account::Account;
 use account::ENTRIES;
 use records::THREADS;

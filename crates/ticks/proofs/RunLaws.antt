@@ -9,8 +9,8 @@ use Rattle.records.specs.Ranges.{byPolicy}
 use Rattle.base.proofs.TestLaws.{cond-true, cond-false}
 use Rattle.sporadic.specs.declared.Server.{Server}
 use Rattle.sporadic.specs.Rules.{charged}
-use Rattle.state.specs.declared.Thread.{Thread}
-use Rattle.state.specs.Updates.{withRun}
+use Rattle.thread.specs.declared.Thread.{Thread}
+use Rattle.thread.specs.Thread.{withRun}
 use Rattle.ticks.specs.Running.{ran, limitOf}
 
 pub by-zero : {A : Type 0} (c : ℕ) (x y z : A) → c ≡ 0 → byPolicy c x y z ≡ x

@@ -10,9 +10,10 @@ use Rattle.account.specs.Account.{entries}
 use Rattle.sporadic.specs.Rules.{charged}
 use Rattle.ready.specs.Lists.{headOf}
 use Rattle.ready.specs.Word.{highestOf}
-use Rattle.state.specs.declared.Thread.{Thread}
+use Rattle.thread.specs.declared.Thread.{Thread}
 use Rattle.state.specs.declared.State.{State}
-use Rattle.state.specs.Updates.{withRun, withTime, withAllThreads}
+use Rattle.state.specs.Updates.{withTime, withAllThreads}
+use Rattle.thread.specs.Thread.{withRun}
 use Rattle.state.specs.State.{threadAt}
 use Rattle.ticks.specs.declared.Due.{Due}
 

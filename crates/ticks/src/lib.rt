@@ -13,7 +13,7 @@ use account::ENTRIES;
 use ready::LIST_BYTES;
 use records::THREADS;
 use rows::SLOTS;
-use state::Thread;
+use thread::Thread;
 
 // The first of the dues, and the lowest thread that has it; thread THREADS for none.
 pub struct Due {
@@ -169,13 +169,13 @@ fn ran_thread(p: u8, k: u64, t: Thread) -> Thread
     let v = t.server;
     let total = t.total + k;
     if q.policy == 0 {
-        return state::with_run(t, total, t.left, v);
+        return thread::with_run(t, total, t.left, v);
     }
     if q.policy == 1 {
-        return state::with_run(t, total, t.left - k, v);
+        return thread::with_run(t, total, t.left - k, v);
     }
     let w = sporadic::charge(v, charged_ticks(p, q.priority, k));
-    state::with_run(t, total, t.left, w)
+    thread::with_run(t, total, t.left, w)
 }
 
 // The same, unchanged where p is 0 because nothing runs.

@@ -1,8 +1,8 @@
 -- `executive::changes::change_of` meets its contract.
 use borrow.Author.Needs.{needs}
 use mathlib.Core.Path.{ap, ap₂, _∙_}
-use Rattle.state.specs.declared.Thread.{Thread}
-use Rattle.state.specs.Updates.{withBlocked}
+use Rattle.thread.specs.declared.Thread.{Thread}
+use Rattle.thread.specs.Thread.{withBlocked}
 use Rattle.events.specs.Events.{becomes, changeOf}
 use Rattle.executive.proofs.ChangeLaws.{change-at, change-last}
 use Rattle.executive.proofs.changes.change_of.Statement.{statement}

@@ -1,8 +1,8 @@
 -- `executive::changes::change_to` meets its contract.
 use borrow.Author.Needs.{needs}
 use mathlib.Core.Path.{ap, _∙_}
-use Rattle.state.specs.declared.Thread.{Thread}
-use Rattle.state.specs.State.{placeOf}
+use Rattle.thread.specs.declared.Thread.{Thread}
+use Rattle.thread.specs.Thread.{placeOf}
 use Rattle.executive.proofs.changes.change_to.Statement.{statement}
 use Rattle.executive.proofs.changes.change_to.Tie as tie
 

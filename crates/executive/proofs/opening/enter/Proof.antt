@@ -10,7 +10,7 @@ use Rattle.executive.proofs.StateLaws.{lists-are}
 use Rattle.executive.proofs.OpenLaws.{enters-blocked, enters-list}
 use Rattle.executive.proofs.opening.enter.Statement.{statement}
 use Rattle.executive.proofs.opening.enter.Tie as tie
-use Rattle.state.specs.Updates.{withBlocked}
+use Rattle.thread.specs.Thread.{withBlocked}
 
 wide-requires : tie.Need-wide-requires
 wide-requires c κs = search needs

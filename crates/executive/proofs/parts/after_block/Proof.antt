@@ -2,7 +2,7 @@
 use mathlib.Core.Path.{sym, ap, _∙_}
 use native.Mathlib.Omega.{arith}
 use Rattle.account.specs.declared.Outcome.{Outcome}
-use Rattle.state.proofs.TestLaws.{policy-low, policy-sporadic}
+use Rattle.records.proofs.PolicyLaws.{policy-low, policy-sporadic}
 use Rattle.executive.proofs.parts.after_block.Statement.{statement}
 use Rattle.executive.proofs.parts.after_block.Tie as tie
 

@@ -1,7 +1,7 @@
 -- `executive::parts::new_account` meets its contract.
 use borrow.Author.Needs.{needs}
 use mathlib.Core.Path.{sym, _∙_}
-use Rattle.state.proofs.TestLaws.{policy-low, policy-sporadic}
+use Rattle.records.proofs.PolicyLaws.{policy-low, policy-sporadic}
 use Rattle.executive.proofs.parts.new_account.Statement.{statement}
 use Rattle.executive.proofs.parts.new_account.Tie as tie
 

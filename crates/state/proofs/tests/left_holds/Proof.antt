@@ -8,9 +8,9 @@ use borrow.Author.Tests.{lt-leb, le-leb}
 use Rattle.base.specs.Tests.{all}
 use Rattle.records.specs.Ranges.{byPolicy}
 use Rattle.base.proofs.TestLaws.{all-false, all-one}
-use Rattle.state.specs.declared.Thread.{Thread}
+use Rattle.thread.specs.declared.Thread.{Thread}
 use Rattle.state.specs.Sound.{leftTests}
-use Rattle.state.proofs.TestLaws.{policy-not-rr}
+use Rattle.records.proofs.PolicyLaws.{policy-not-rr}
 use Rattle.state.proofs.tests.left_holds.Statement.{statement}
 use Rattle.state.proofs.tests.left_holds.Tie as tie
 

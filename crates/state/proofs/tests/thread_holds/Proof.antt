@@ -13,10 +13,11 @@ use Rattle.base.proofs.TestLaws.{tests, all-true, all-false, all-one, cond-true
 use Rattle.account.specs.declared.Pending.{Pending}
 use Rattle.account.specs.Sound.{soundAt}
 use Rattle.rows.specs.Rows.{pendingOf}
-use Rattle.state.specs.declared.Thread.{Thread}
-use Rattle.state.specs.State.{isBlocked}
+use Rattle.thread.specs.declared.Thread.{Thread}
+use Rattle.thread.specs.Thread.{isBlocked}
 use Rattle.state.specs.Sound.{serverTests, noAccountTests, accountTest, presentFields, absentFields, presentTest, absentTest, presenceTest}
-use Rattle.state.proofs.TestLaws.{decided-true, decided-false, _and_, by-last, all-append, policy-low, policy-sporadic}
+use Rattle.state.proofs.TestLaws.{decided-true, decided-false, _and_, by-last, all-append}
+use Rattle.records.proofs.PolicyLaws.{policy-low, policy-sporadic}
 use Rattle.state.proofs.tests.thread_holds.Statement.{statement}
 use Rattle.state.proofs.tests.thread_holds.Tie as tie
 

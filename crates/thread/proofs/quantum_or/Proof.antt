@@ -1,9 +1,9 @@
--- `state::quantum_or` meets its contract.
+-- `thread::quantum_or` meets its contract.
 use borrow.Author.Needs.{needs}
 use mathlib.Core.Path.{sym}
-use Rattle.state.proofs.TestLaws.{policy-not-rr}
-use Rattle.state.proofs.quantum_or.Statement.{statement}
-use Rattle.state.proofs.quantum_or.Tie as tie
+use Rattle.records.proofs.PolicyLaws.{policy-not-rr}
+use Rattle.thread.proofs.quantum_or.Statement.{statement}
+use Rattle.thread.proofs.quantum_or.Tie as tie
 
 returns : tie.Need-returns
 returns c = search needs

@@ -1,10 +1,10 @@
--- `state::renew` meets its contract.
+-- `thread::renew` meets its contract.
 use Prim.Native.Nat.{ℕ}
 use mathlib.Core.Path.{ap, _∙_}
 use borrow.Author.Needs.{needs}
-use Rattle.state.specs.Updates.{withLeft, withParameters}
-use Rattle.state.proofs.renew.Statement.{statement}
-use Rattle.state.proofs.renew.Tie as tie
+use Rattle.thread.specs.Thread.{withLeft, withParameters}
+use Rattle.thread.proofs.renew.Statement.{statement}
+use Rattle.thread.proofs.renew.Tie as tie
 
 quantum-or-requires : tie.Need-quantum-or-requires
 quantum-or-requires c κs = search needs

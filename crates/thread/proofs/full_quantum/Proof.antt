@@ -1,12 +1,12 @@
--- `state::full_quantum` meets its contract.
+-- `thread::full_quantum` meets its contract.
 use Prim.Native.Nat.{ℕ}
 use mathlib.Core.Path.{_≡_, ap, _∙_}
 use borrow.Author.Needs.{needs}
 use Rattle.records.specs.Ranges.{byPolicy}
-use Rattle.state.specs.declared.Thread.{Thread}
-use Rattle.state.specs.Updates.{threadOf, withLeft, fullQuantum}
-use Rattle.state.proofs.full_quantum.Statement.{statement}
-use Rattle.state.proofs.full_quantum.Tie as tie
+use Rattle.thread.specs.declared.Thread.{Thread}
+use Rattle.thread.specs.Thread.{threadOf, withLeft, fullQuantum}
+use Rattle.thread.proofs.full_quantum.Statement.{statement}
+use Rattle.thread.proofs.full_quantum.Tie as tie
 
 made : (t : Thread) (n : ℕ) {r : Thread} → r ≡ threadOf (t .parameters) (t .blocked) (t .total) n (t .server)
     → n ≡ byPolicy (t .parameters .policy) (t .left) (t .parameters .budget) (t .left) → r ≡ fullQuantum t

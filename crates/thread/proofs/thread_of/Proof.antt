@@ -1,8 +1,8 @@
--- `state::thread_of` meets its contract.
+-- `thread::thread_of` meets its contract.
 use mathlib.Core.Path.{_≡_, refl}
-use Rattle.state.specs.Updates.{threadOf}
-use Rattle.state.proofs.thread_of.Statement.{statement}
-use Rattle.state.proofs.thread_of.Tie as tie
+use Rattle.thread.specs.Thread.{threadOf}
+use Rattle.thread.proofs.thread_of.Statement.{statement}
+use Rattle.thread.proofs.thread_of.Tie as tie
 
 returns : tie.Need-returns
 returns c = let a = c .args in refl {a = threadOf (a .p) (a .blocked) (a .total) (a .left) (a .v)}

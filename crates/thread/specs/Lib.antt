@@ -1,0 +1,2 @@
+-- What a reader of `thread` must believe.
+pub mod Thread
