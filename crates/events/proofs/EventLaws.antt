@@ -25,7 +25,7 @@ use Rattle.rows.proofs.RowLaws.{row-length}
 use Rattle.state.proofs.SoundLaws.{blocked-most, ThreadSound, Sound}
 use Rattle.state.proofs.SoundLaws.ThreadSound.{absent, fifo, rr, sporadic}
 use Rattle.ticks.specs.Running.{level, head, idles}
-use Rattle.ticks.proofs.RunLaws.{by-zero, by-one, by-two}
+use Rattle.records.proofs.PolicyLaws.{by-zero, by-one, by-two}
 use Rattle.moments.proofs.ChangeLaws.{withBound, changed}
 use Rattle.moments.proofs.ChargeLaws.{runs}
 use Rattle.moments.proofs.FireLaws.{bounds-same}

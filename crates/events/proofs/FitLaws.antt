@@ -22,7 +22,7 @@ use Rattle.thread.specs.declared.Thread.{Thread}
 use Rattle.thread.specs.Thread.{isBlocked, assigned, fullQuantum, renewed, withBlocked, withServer}
 use Rattle.state.proofs.SoundLaws.{ThreadSound, range-out, fifo-out, rr-out, sporadic-out}
 use Rattle.state.proofs.SoundLaws.ThreadSound.{absent, fifo, rr, sporadic}
-use Rattle.ticks.proofs.RunLaws.{by-zero, by-one, by-two}
+use Rattle.records.proofs.PolicyLaws.{by-zero, by-one, by-two}
 use Rattle.events.specs.Events.{ifSporadic, noAccount, newAccount}
 
 -- a thread and an account that fit a place of a sound state

@@ -33,7 +33,7 @@ use Rattle.ticks.specs.declared.Due.{Due}
 use Rattle.ticks.proofs.EarlierLaws.{earlier-left, earlier-right, earlier-above}
 use Rattle.rows.proofs.RowLaws.{row-first}
 use Rattle.ticks.specs.Running.{level, head, idles, ran, charge, earlier, limit, nextDue, next}
-use Rattle.ticks.proofs.RunLaws.{by-zero, by-one, by-two}
+use Rattle.records.proofs.PolicyLaws.{by-zero, by-one, by-two}
 use Rattle.moments.proofs.ChangeLaws.{totals-set}
 use Rattle.ticks.proofs.DueLaws.{Found, found}
 use Rattle.state.specs.Updates.{stateOf}

@@ -10,7 +10,7 @@ use native.Mathlib.Decide.{ℕ-discrete}
 use borrow.Author.Tests.{eqb-true, eq-eqb, ne-eqb, lt-ltb, le-ltb, ltb-false}
 use Rattle.records.specs.declared.Header.{Header}
 use Rattle.base.proofs.TestLaws.{tests, All, cond-elim, cond-true, cond-false, false-true}
-use Rattle.records.proofs.PolicyLaws.{policy-elim}
+use Rattle.records.proofs.PolicyLaws.{policy-elim, by-two}
 use Rattle.sporadic.specs.declared.Server.{Server}
 use Rattle.account.specs.declared.Pending.{Pending}
 use Rattle.account.specs.declared.Account.{Account}
@@ -34,7 +34,6 @@ use Rattle.thread.specs.Thread.{isBlocked, placeOf, withServer}
 use Rattle.state.proofs.SoundLaws.{noPending, ThreadSound, SoundFrom, Sound, SporadicTests}
 use Rattle.state.proofs.SoundLaws.ThreadSound.{absent, fifo, rr, sporadic}
 use Rattle.ticks.specs.Running.{level, head, idles}
-use Rattle.ticks.proofs.RunLaws.{by-two}
 use Rattle.moments.specs.Changes.{sentTo, withEffect}
 use Rattle.moments.specs.Moments.{quantumEnded, limitsOf, limits, firstReturned, replenish, replenishBelow, fire}
 use Rattle.moments.proofs.ChangeLaws.{withBound, changed}

@@ -35,7 +35,7 @@ use Rattle.rows.proofs.RowLaws.{row-length}
 use Rattle.state.proofs.SoundLaws.{noPending, ThreadSound, SoundFrom, sizeTests, RrTests, SporadicTests}
 use Rattle.state.proofs.SoundLaws.ThreadSound.{absent, fifo, rr, sporadic}
 use Rattle.ticks.specs.Running.{level, head, idles, ran, charge}
-use Rattle.ticks.proofs.RunLaws.{by-zero, by-one, by-two}
+use Rattle.records.proofs.PolicyLaws.{by-zero, by-one, by-two}
 use Rattle.moments.specs.Changes.{sentTo, withEffect}
 use Rattle.moments.specs.Moments.{limitsOf, limits}
 use Rattle.moments.proofs.ChangeLaws.{withBound, totals-set, changed-at, thread-account}

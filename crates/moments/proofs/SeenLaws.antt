@@ -24,7 +24,8 @@ use Rattle.state.proofs.SoundLaws.{ThreadSound, SoundFrom}
 use Rattle.state.proofs.SoundLaws.ThreadSound.{absent, fifo, rr, sporadic}
 use Rattle.ticks.specs.declared.Due.{Due}
 use Rattle.ticks.specs.Running.{level, head, idles, ran, charge, earlier, limitOf, limit, next}
-use Rattle.ticks.proofs.RunLaws.{by-one, by-more, limit-rr, limit-upper}
+use Rattle.ticks.proofs.RunLaws.{limit-rr, limit-upper}
+use Rattle.records.proofs.PolicyLaws.{by-one, by-more}
 use Rattle.moments.proofs.ChargeLaws.{runs, no-word, runner-lasts}
 use Rattle.moments.proofs.TurnLaws.{firstOf}
 use Rattle.state.specs.Updates.{stateOf}

@@ -33,7 +33,8 @@ use Rattle.thread.specs.Thread.{isBlocked, noThread, assigned}
 use Rattle.state.proofs.SoundLaws.{ThreadSound, SoundFrom, SporadicTests}
 use Rattle.state.proofs.SoundLaws.ThreadSound.{absent, fifo, rr, sporadic}
 use Rattle.ticks.specs.Running.{level, head, idles, ran, charge, limitOf, limit, next}
-use Rattle.ticks.proofs.RunLaws.{by-zero, by-one, by-two, by-more, limit-rr, limit-upper, limit-lower}
+use Rattle.ticks.proofs.RunLaws.{limit-rr, limit-upper, limit-lower}
+use Rattle.records.proofs.PolicyLaws.{by-zero, by-one, by-two, by-more}
 use Rattle.moments.specs.Changes.{withEffect}
 use Rattle.moments.specs.Moments.{quantumEnded, limitsOf, limits}
 use Rattle.rows.specs.Rows.{slotsAt}

@@ -25,3 +25,23 @@ pub policy-not-rr : {A : Type 0} (c : ℕ) (x y : A) → (c ≡ 1 → ⊥) → b
 policy-not-rr zero x y h = refl
 policy-not-rr (suc zero) x y h = absurd (h refl)
 policy-not-rr (suc (suc c)) x y h = refl
+
+-- by the policy that it is
+pub by-zero : {A : Type 0} (c : ℕ) (x y z : A) → c ≡ 0 → byPolicy c x y z ≡ x
+by-zero zero x y z e = refl
+by-zero (suc c) x y z e = absurd (omega arith)
+
+pub by-one : {A : Type 0} (c : ℕ) (x y z : A) → c ≡ 1 → byPolicy c x y z ≡ y
+by-one zero x y z e = absurd (omega arith)
+by-one (suc zero) x y z e = refl
+by-one (suc (suc c)) x y z e = absurd (omega arith)
+
+pub by-two : {A : Type 0} (c : ℕ) (x y z : A) → c ≡ 2 → byPolicy c x y z ≡ z
+by-two zero x y z e = absurd (omega arith)
+by-two (suc zero) x y z e = absurd (omega arith)
+by-two (suc (suc c)) x y z e = refl
+
+pub by-more : {A : Type 0} (c : ℕ) (x y z : A) → (c ≡ 0 → ⊥) → (c ≡ 1 → ⊥) → byPolicy c x y z ≡ z
+by-more zero x y z d e = absurd (d refl)
+by-more (suc zero) x y z d e = absurd (e refl)
+by-more (suc (suc c)) x y z d e = refl

@@ -7,12 +7,12 @@ ghost use Rattle.base.specs.Tests.{all, zeros};
 ghost use Rattle.records.specs.Ranges.{mostThreads};
 ghost use Rattle.rows.specs.Rows.{allSlots, slotsAt, pendingOf};
 ghost use Rattle.state.specs.Sound.{serverTests, leftTests, presentFields, absentFields, presenceTest};
-use thread::Thread;
 use account::Account;
 use account::ENTRIES;
 use records::THREADS;
 use rows::SLOTS;
 use sporadic::Server;
+use thread::Thread;
 
 // The largest max_repl.
 const MOST_REPL: u8 = ENTRIES as u8;

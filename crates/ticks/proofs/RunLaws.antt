@@ -5,6 +5,7 @@ use mathlib.Core.Path.{_≡_, refl, sym, _∙_}
 use lib.Dec.{eqb}
 use native.Mathlib.Omega.{arith}
 use borrow.Author.Tests.{eq-eqb, ne-eqb}
+use Rattle.records.proofs.PolicyLaws.{by-zero, by-one, by-two, by-more}
 use Rattle.records.specs.Ranges.{byPolicy}
 use Rattle.base.proofs.TestLaws.{cond-true, cond-false}
 use Rattle.sporadic.specs.declared.Server.{Server}
@@ -12,25 +13,6 @@ use Rattle.sporadic.specs.Rules.{charged}
 use Rattle.thread.specs.declared.Thread.{Thread}
 use Rattle.thread.specs.Thread.{withRun}
 use Rattle.ticks.specs.Running.{ran, limitOf}
-
-pub by-zero : {A : Type 0} (c : ℕ) (x y z : A) → c ≡ 0 → byPolicy c x y z ≡ x
-by-zero zero x y z e = refl
-by-zero (suc c) x y z e = absurd (omega arith)
-
-pub by-one : {A : Type 0} (c : ℕ) (x y z : A) → c ≡ 1 → byPolicy c x y z ≡ y
-by-one zero x y z e = absurd (omega arith)
-by-one (suc zero) x y z e = refl
-by-one (suc (suc c)) x y z e = absurd (omega arith)
-
-pub by-two : {A : Type 0} (c : ℕ) (x y z : A) → c ≡ 2 → byPolicy c x y z ≡ z
-by-two zero x y z e = absurd (omega arith)
-by-two (suc zero) x y z e = absurd (omega arith)
-by-two (suc (suc c)) x y z e = refl
-
-pub by-more : {A : Type 0} (c : ℕ) (x y z : A) → (c ≡ 0 → ⊥) → (c ≡ 1 → ⊥) → byPolicy c x y z ≡ z
-by-more zero x y z d e = absurd (d refl)
-by-more (suc zero) x y z d e = absurd (e refl)
-by-more (suc (suc c)) x y z d e = refl
 
 -- no ticks charge nothing
 pub charged-none : (v : Server) → charged 0 v ≡ v
