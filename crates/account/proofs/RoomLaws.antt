@@ -1,7 +1,6 @@
 -- Each rule has the room among the entries that it needs.
 use Prim.Native.Nat.{ℕ, _<_}
 use mathlib.Core.Bool.{Bool, true, false}
-use mathlib.Core.Path.{_≡_, refl}
 use native.Mathlib.Omega.{arith}
 use Rattle.base.proofs.TestLaws.{cond-elim, false-true}
 use Rattle.records.specs.declared.Parameters.{Parameters}

@@ -10,7 +10,7 @@ use Rattle.records.specs.declared.Parameters.{Parameters}
 use Rattle.sporadic.specs.declared.Server.{Server}
 use Rattle.sporadic.specs.declared.Place.the-variants.{Low, LowThenUpper, Upper}
 use Rattle.sporadic.specs.declared.Effect.{Effect}
-use Rattle.sporadic.specs.Rules.{atUpper, replenished, dueOf, cleared, activated, unchanged, pendingLater, backAtOnce, scheduled, sent, atLimit, limitEffect, blockEffect, wakeEffect, firstBack, returnEffect}
+use Rattle.sporadic.specs.Rules.{atUpper, replenished, dueOf, cleared, activated, unchanged, pendingLater, backAtOnce, scheduled, sent, atLimit, limitEffect, firstBack, returnEffect}
 
 module _ (now : ℕ) (p : Parameters) (s : Server) where
   pub schedule-elim : (P : Effect → Type 0) → (s .used ≡ 0 → P (unchanged s)) → (0 < s .used → dueOf p s ≤ now → P (backAtOnce p s))

@@ -1,14 +1,12 @@
 -- Laws of tests: every number below n, the last test of a list, the policies.
-use Prim.Native.Nat.{ℕ, zero, suc, _+_, _≤_, _<_}
+use Prim.Native.Nat.{ℕ, _+_, _<_}
 use mathlib.Core.Bool.{Bool, true, false, cond, not}
 use mathlib.Core.Path.{_≡_, refl, sym, _∙_}
 use mathlib.Core.List.{List, [], _∷_, _++_}
 use lib.Dec.{eqb}
 use native.Mathlib.Numerals.{add-one}
-use native.Mathlib.Omega.{arith}
 use borrow.Author.Tests.{eq-eqb, ne-eqb, eqb-true, eqb-false, not-true, not-false}
 use Rattle.base.specs.Tests.{all, below}
-use Rattle.records.specs.Ranges.{byPolicy}
 use Rattle.base.proofs.TestLaws.{All, false-true, all-one, below-at}
 
 -- the answer r of a function that decides t, in `if !r`

@@ -1,11 +1,11 @@
 -- A thread's ticks and its limit, by policy.
-use Prim.Native.Nat.{ℕ, zero, suc, _+_, _-_}
+use Prim.Native.Nat.{ℕ, _+_, _-_}
 use mathlib.Core.Bool.{Bool, true, false, cond}
 use mathlib.Core.Path.{_≡_, refl, sym, _∙_}
 use lib.Dec.{eqb}
 use native.Mathlib.Omega.{arith}
 use borrow.Author.Tests.{eq-eqb, ne-eqb}
-use Rattle.records.proofs.PolicyLaws.{by-zero, by-one, by-two, by-more}
+use Rattle.records.proofs.PolicyLaws.{by-zero, by-one, by-more}
 use Rattle.records.specs.Ranges.{byPolicy}
 use Rattle.base.proofs.TestLaws.{cond-true, cond-false}
 use Rattle.sporadic.specs.declared.Server.{Server}

@@ -1,5 +1,5 @@
 -- `thread::thread_of` meets its contract.
-use mathlib.Core.Path.{_≡_, refl}
+use mathlib.Core.Path.{refl}
 use Rattle.thread.specs.Thread.{threadOf}
 use Rattle.thread.proofs.thread_of.Statement.{statement}
 use Rattle.thread.proofs.thread_of.Tie as tie

@@ -1,7 +1,5 @@
 -- `state::tests::fields_hold` meets its contract.
-use mathlib.Core.Bool.{Bool}
 use mathlib.Core.Path.{sym, ap, _∙_}
-use mathlib.Core.List.{List}
 use Rattle.base.specs.Tests.{all}
 use Rattle.base.proofs.TestLaws.{cond-true, cond-false}
 use borrow.Author.Needs.{needs}

@@ -2,14 +2,13 @@
 use Prim.Native.Nat.{ℕ, _≤_, _<_}
 use mathlib.Core.Bool.{Bool, true, false, cond}
 use mathlib.Core.Path.{_≡_, refl, sym, ap, _∙_}
-use mathlib.Core.List.{List, [], _∷_}
-use lib.Dec.{eqb}
+use mathlib.Core.List.{[], _∷_}
 use native.Mathlib.Omega.{arith}
 use borrow.Author.Needs.{needs}
 use borrow.Author.Tests.{eqb-true, eq-eqb, ne-eqb}
-use Rattle.base.specs.Tests.{all, zeros}
+use Rattle.base.specs.Tests.{all}
 use Rattle.records.specs.Ranges.{byPolicy, allZero}
-use Rattle.base.proofs.TestLaws.{tests, all-true, all-false, all-one, cond-true, cond-false}
+use Rattle.base.proofs.TestLaws.{all-true, all-false, all-one, cond-true, cond-false}
 use Rattle.account.specs.declared.Pending.{Pending}
 use Rattle.account.specs.Sound.{soundAt}
 use Rattle.rows.specs.Rows.{pendingOf}
