@@ -8,7 +8,7 @@ event-requires : tie.Need-event-requires
 event-requires c κs = search needs
 
 returns : tie.Need-returns
-returns c = let e = c .before .event .ensures in search (done-is, e)
+returns c = let e = c .before .event .ensures in done-is _ _ e
 
 pub replied-spec : {M : Type 1} → statement M
 replied-spec = tie.close (tie.spec event-requires returns)

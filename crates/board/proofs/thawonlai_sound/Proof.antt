@@ -9,10 +9,10 @@ sound-requires : tie.Need-sound-requires
 sound-requires c κs = search needs
 
 returns : tie.Need-returns
-returns c = let e = sym (c .before .sound .ensures) ∙ c .if1 .taken in search (number-true, e)
+returns c = let e = sym (c .before .sound .ensures) ∙ c .if1 .taken in number-true _ e
 
 returns-2 : tie.Need-returns-2
-returns-2 c = let e = sym (c .before .sound .ensures) ∙ c .if1 .left in search (number-false, e)
+returns-2 c = let e = sym (c .before .sound .ensures) ∙ c .if1 .left in number-false _ e
 
 pub thawonlai-sound-spec : {M : Type 1} → statement M
 thawonlai-sound-spec = tie.close (tie.spec sound-requires returns returns-2)

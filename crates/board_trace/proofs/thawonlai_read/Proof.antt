@@ -13,7 +13,7 @@ read-requires : tie.Need-read-requires
 read-requires c κs = search needs
 
 returns : tie.Need-returns
-returns c = let e = c .before .read .ensures in search (found-is, e)
+returns c = let e = c .before .read .ensures in found-is _ _ e
 
 pub thawonlai-read-spec : {M : Type 1} → statement M
 thawonlai-read-spec = tie.close (tie.spec read-requires returns)
