@@ -10,11 +10,11 @@
 #include <sys/mman.h>
 
 enum { STACK = 1 << 20, PAINT = 0xa5, LONGEST = 65536 };
-enum { EVENT, OPEN, SOUND, READ, COPY, LISTING, CHECK, FUNCTIONS };
+enum { EVENT, OPEN, SOUND, READ, COPY, LISTING, CHECK, REPLAY, TO_TEXT, FUNCTIONS };
 static const char *const names[] = { "thawonlai_event", "thawonlai_open", "thawonlai_sound", "thawonlai_read", "thawonlai_copy",
-                                     "thawonlai_listing", "thawonlai_check" };
+                                     "thawonlai_listing", "thawonlai_check", "thawonlai_replay", "thawonlai_to_text" };
 /* by value, and too large for registers; a struct of up to 16 bytes goes in registers */
-static const size_t arguments[] = { sizeof(struct event), sizeof(struct table), sizeof(struct state), 0, 0, 0, 0 };
+static const size_t arguments[] = { sizeof(struct event), sizeof(struct table), sizeof(struct core), 0, 0, 0, 0, 0, 0 };
 
 /* `at_F` notes where the stack stands as F is entered, and goes on to F. */
 char *entered;
@@ -28,27 +28,32 @@ AT(thawonlai_read)
 AT(thawonlai_copy)
 AT(thawonlai_listing)
 AT(thawonlai_check)
+AT(thawonlai_replay)
+AT(thawonlai_to_text)
 
-static uint8_t file[LONGEST], out[LONGEST];
+static uint8_t file[LONGEST], out[LONGEST], text[1 << 18];
 static size_t length;
-static struct state state;
+static struct core core;
+static uint64_t dues[SLOTS], amounts[SLOTS], replayed_dues[SLOTS], replayed_amounts[SLOTS];
 static struct event event;
 static struct table table;
 static uint64_t start;
 static uint32_t n;
-static struct answer opened;
+static struct answer opened, replayed;
 static struct found found;
 static struct listed listed;
 
 static void *call(void *which) {
     switch ((int)(intptr_t)which) {
-    case EVENT: at_thawonlai_event(&state, event); break;
-    case OPEN: opened = at_thawonlai_open((struct header){ .n = n, .start = start }, table); break;
-    case SOUND: at_thawonlai_sound(state); break;
+    case EVENT: at_thawonlai_event(&core, dues, amounts, event); break;
+    case OPEN: opened = at_thawonlai_open((struct header){ .n = n, .start = start }, table, dues, amounts); break;
+    case SOUND: at_thawonlai_sound(core, dues, amounts); break;
     case READ: found = at_thawonlai_read(file, length); break;
     case COPY: at_thawonlai_copy(file, length, out, LONGEST); break;
     case LISTING: listed = at_thawonlai_listing(file, length, out, LONGEST); break;
-    default: at_thawonlai_check(file, length, out, listed.length);
+    case CHECK: at_thawonlai_check(file, length, out, listed.length); break;
+    case REPLAY: replayed = at_thawonlai_replay(file, length, EVENTS, replayed_dues, replayed_amounts); break;
+    default: at_thawonlai_to_text(file, length, text, sizeof text);
     }
     return NULL;
 }
@@ -80,13 +85,13 @@ int main(int count, char **words) {
         if (!f) { perror(words[k]); return 2; }
         length = fread(file, 1, LONGEST, f);
         fclose(f);
-        for (int which = READ; which <= CHECK; which++) measure(which);
+        for (int which = READ; which < FUNCTIONS; which++) measure(which);
         if (found.status) continue;
         memset(&table, 0, sizeof table);
         n = found.n, start = found.start;
         memcpy(table.threads, file + 32, n * sizeof(struct parameters)); /* a record is laid out as the struct */
         measure(OPEN);
-        state = opened.state;
+        core = opened.core;
         for (size_t i = 0; i < found.count; i++, events++) {
             memcpy(&event, file + 32 + n * sizeof(struct parameters) + i * sizeof event, sizeof event);
             measure(EVENT);
@@ -94,7 +99,7 @@ int main(int count, char **words) {
         }
         measure(SOUND);
     }
-    printf("%d files, %d events; a state has %zu bytes\n", count - 1, events, sizeof(struct state));
+    printf("%d files, %d events; a state has %zu bytes\n", count - 1, events, sizeof core + sizeof dues + sizeof amounts);
     puts("| Function | Stack | Arguments on the stack |\n|---|---|---|");
     for (int which = 0; which < FUNCTIONS; which++) printf("| `%s` | %zu | %zu |\n", names[which], most[which], arguments[which]);
     return 0;

@@ -1,28 +1,28 @@
-/* What the static libraries export, for C: the functions of crates/board, board_trace, board_text and board_check, and the structs that
+/* What the static libraries export, for C: the functions of crates/board, board_trace, board_replay, board_text and board_check, and the structs that
    they name. A slice is a pointer and then a length. */
 #ifndef THAWONLAI_H
 #define THAWONLAI_H
 #include <stddef.h>
 #include <stdint.h>
 
-enum { THREADS = 32, ENTRIES = 8, ROW = 33, EVENTS = 1500 };
+enum { THREADS = 32, ENTRIES = 8, SLOTS = THREADS * ENTRIES, ROW = 33, EVENTS = 1500 };
 
 struct parameters { uint8_t policy, priority, low, max_repl; uint32_t flag; uint64_t budget, period; };
 struct event { uint64_t time; uint8_t kind, thread; struct parameters parameters; };
 struct header { uint32_t n; uint64_t start; };
 struct server { uint64_t capacity, used, activation; };
 struct thread { struct parameters parameters; uint8_t blocked; uint64_t total, left; struct server server; };
-struct state {
+/* a state without its slots; these, SLOTS dues and SLOTS amounts, are lent beside it */
+struct core {
     struct header header;
     uint64_t now, idle;
     uint32_t word;
     struct thread threads[THREADS];
     uint8_t counts[THREADS];
-    uint64_t dues[THREADS * ENTRIES], amounts[THREADS * ENTRIES];
     uint8_t lists[THREADS * ROW];
 };
 struct reply { uint8_t status, running; uint64_t next; };
-struct answer { uint8_t status, running; uint64_t next; struct state state; };
+struct answer { uint8_t status, running; uint64_t next; struct core core; };
 struct table { struct parameters threads[THREADS]; };
 struct events { struct event events[EVENTS]; };
 struct found { uint8_t status; uint32_t n; uint64_t start; size_t count; };
@@ -31,14 +31,14 @@ struct listed { uint8_t status; size_t length; };
 struct made { uint8_t status; size_t line, total; };
 struct checked { uint8_t verdict, status; size_t line; };
 
-struct reply thawonlai_event(struct state *state, struct event e);
-struct answer thawonlai_open(struct header header, struct table table);
-uint8_t thawonlai_sound(struct state s);
+struct reply thawonlai_event(struct core *core, uint64_t *dues, uint64_t *amounts, struct event e);
+struct answer thawonlai_open(struct header header, struct table table, uint64_t *dues, uint64_t *amounts);
+uint8_t thawonlai_sound(struct core core, const uint64_t *dues, const uint64_t *amounts);
 struct found thawonlai_read(const uint8_t *file, size_t length);
 struct written thawonlai_write(struct header header, struct table table, struct events events, size_t count, uint8_t *out, size_t room);
 struct written thawonlai_copy(const uint8_t *file, size_t length, uint8_t *out, size_t room);
 struct listed thawonlai_listing(const uint8_t *file, size_t length, uint8_t *out, size_t room);
-struct answer thawonlai_replay(const uint8_t *file, size_t length, size_t count);
+struct answer thawonlai_replay(const uint8_t *file, size_t length, size_t count, uint64_t *dues, uint64_t *amounts);
 struct made thawonlai_from_text(const uint8_t *text, size_t length, uint8_t *out, size_t room);
 struct made thawonlai_to_text(const uint8_t *file, size_t length, uint8_t *out, size_t room);
 struct checked thawonlai_check(const uint8_t *file, size_t length, const uint8_t *theirs, size_t their_length);

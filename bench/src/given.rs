@@ -26,18 +26,16 @@ pub fn event(e: &plain::Event) -> board::Event {
 }
 
 pub fn state(s: &plain::State) -> board::State {
-    let mut given = board::State {
-        header: board::Header {
-            n: s.n,
-            start: s.start,
-        },
-        now: s.now,
-        idle: s.idle,
-        word: s.word,
-        ..board::State::default()
+    let mut given = board::State::default();
+    given.core.header = board::Header {
+        n: s.n,
+        start: s.start,
     };
+    given.core.now = s.now;
+    given.core.idle = s.idle;
+    given.core.word = s.word;
     for (i, t) in s.threads.iter().enumerate() {
-        given.threads[i] = board::Thread {
+        given.core.threads[i] = board::Thread {
             parameters: parameters(&t.parameters),
             blocked: t.blocked as u8,
             total: t.total,
@@ -48,11 +46,15 @@ pub fn state(s: &plain::State) -> board::State {
                 activation: t.activation,
             },
         };
-        given.counts[i] = t.pending;
+        given.core.counts[i] = t.pending;
         given.dues[i * PENDING..][..PENDING].copy_from_slice(&t.dues);
         given.amounts[i * PENDING..][..PENDING].copy_from_slice(&t.amounts);
     }
-    for (list, row) in s.lists.iter().zip(given.lists.chunks_exact_mut(board::ROW)) {
+    for (list, row) in s
+        .lists
+        .iter()
+        .zip(given.core.lists.chunks_exact_mut(board::ROW))
+    {
         row[0] = list.length;
         row[1..].copy_from_slice(&list.members);
     }

@@ -1,12 +1,7 @@
--- What is made of an answer and of a test, where these are known.
+-- What is made of a test, where it is known.
 use Prim.Native.Nat.{ℕ}
 use mathlib.Core.Path.{_≡_, ap, sym}
 use mathlib.Core.Bool.{Bool, true, false, cond}
-use Rattle.executive.specs.declared.Answer.{Answer}
-use Rattle.board.specs.Board.{doneOf}
-
-pub done-is : (a b : Answer) → a ≡ b → doneOf a ≡ doneOf b
-done-is a b e = ap doneOf e
 
 abbrev number : Bool → ℕ
 number b = cond b 1 0

@@ -1,17 +1,23 @@
 // The executive for programs in other languages: a static library's exported functions.
 //
-// A struct is laid out as C lays it out, and a `&mut State` is a pointer to one.
-// None has a `requires`: any values may be handed in, and bad ones get their status.
+// A struct is laid out as C lays it out, a `&mut Core` is a pointer to one, and an array that is lent is a pointer to its first
+// number. None has a `requires`: any values may be handed in, and bad ones get their status.
 ghost use mathlib.Core.Path.{_≡_};
 ghost use mathlib.Core.Bool.{cond};
+ghost use Rattle.passing.specs.Sequence.{answer};
 ghost use Rattle.state.specs.Sound.{soundState};
-ghost use Rattle.executive.specs.Answer.{eventAnswer, openAnswer};
-ghost use Rattle.board.specs.Board.{replyOf, doneOf};
+ghost use Rattle.state.specs.Updates.{whole};
+ghost use Rattle.events.specs.Answers.{executive};
+ghost use Rattle.events.specs.Opening.{opening};
+ghost use Rattle.executive.specs.Answer.{answerOf};
+ghost use Rattle.board.specs.Board.{replied, done};
 use executive::Answer;
 use records::Event;
 use records::Header;
 use records::Parameters;
-use state::State;
+use records::THREADS;
+use rows::Slots;
+use state::Core;
 
 // The answer to an event without its state: status, the running thread or 255, the next moment or 0.
 #[repr(C)]
@@ -21,27 +27,27 @@ pub struct Reply {
     pub next: u64,
 }
 
-// The state after an event, and the reply.
+// The state after an event, without its slots, and the reply.
 #[repr(C)]
 pub struct Done {
-    pub state: State,
+    pub core: Core,
     pub reply: Reply,
 }
 
 // A thread table: an array on its own is not passed by value in C.
 #[repr(C)]
 pub struct Table {
-    pub threads: [Parameters; 32],
+    pub threads: [Parameters; THREADS],
 }
 
-// An event for a state by value.
-fn replied(s: State, e: Event) -> Done
-    ensures { λ r. ⌜ r ≡ doneOf (eventAnswer s e) ⌝ }
+// An event for a core by value.
+fn event_done(c: Core, dues: &mut Slots, amounts: &mut Slots, e: Event) -> Done
+    ensures { λ r. ⌜ done r (now (dues .exit)) (now (amounts .exit)) ≡ answer executive (whole c (now (dues .entry)) (now (amounts .entry))) e ⌝ }
 {
-    let a = executive::event(s, e);
-    let state = a.state;
+    let a = executive::event(c, dues, amounts, e);
+    let core = a.core;
     Done {
-        state: state,
+        core: core,
         reply: Reply {
             status: a.status,
             running: a.running,
@@ -52,29 +58,42 @@ fn replied(s: State, e: Event) -> Done
 
 // An event for a lent state, which is left as the answer says.
 #[no_mangle]
-pub extern "C" fn thawonlai_event(state: &mut State, e: Event) -> Reply
-    ensures { λ r. ⌜ (r ≡ replyOf (eventAnswer (now (state .entry)) e)) × (now (state .exit) ≡ eventAnswer (now (state .entry)) e .state) ⌝ }
+pub extern "C" fn thawonlai_event(
+    core: &mut Core,
+    dues: &mut Slots,
+    amounts: &mut Slots,
+    e: Event,
+) -> Reply
+    ensures { λ r. ⌜ replied r (whole (now (core .exit)) (now (dues .exit)) (now (amounts .exit))) ≡ answer executive (whole (now (core .entry)) (now (dues .entry)) (now (amounts .entry))) e ⌝ }
 {
-    let d = replied(*state, e);
-    *state = d.state;
+    let d = event_done(*core, dues, amounts, e);
+    *core = d.core;
     d.reply
 }
 
-// Opens a state: the first N threads of the table, at the start time.
+// Opens a state: the first N threads of the table, at the start time. The slots are lent, and left as the answer's state has them.
 #[no_mangle]
-pub extern "C" fn thawonlai_open(header: Header, table: Table) -> Answer
-    ensures { λ r. ⌜ r ≡ openAnswer header (table .threads) ⌝ }
+pub extern "C" fn thawonlai_open(
+    header: Header,
+    table: Table,
+    dues: &mut Slots,
+    amounts: &mut Slots,
+) -> Answer
+    ensures { λ r. ⌜ answerOf r (now (dues .exit)) (now (amounts .exit)) ≡ opening header (table .threads) ⌝ }
 {
     let threads = table.threads;
-    executive::open(header, threads)
+    executive::open(header, threads, dues, amounts)
 }
 
 // 1 where a state is sound, else 0.
 #[no_mangle]
-pub extern "C" fn thawonlai_sound(s: State) -> u8
-    ensures { λ r. ⌜ r ≡ cond (soundState s) 1 0 ⌝ }
+pub extern "C" fn thawonlai_sound<'a>(core: Core, dues: &'a Slots, amounts: &'a Slots) -> u8
+    ensures { λ r. ⌜ r ≡ cond (soundState (whole core (now (dues .entry)) (now (amounts .entry)))) 1 0 ⌝ }
 {
-    if state::sound(s) {
+    // lent as slices, so that their lengths are known
+    rows::slots(dues);
+    rows::slots(amounts);
+    if state::sound(core, dues, amounts) {
         return 1;
     }
     0

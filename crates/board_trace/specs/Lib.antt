@@ -1,3 +1,2 @@
--- What a reader of `board_trace` must believe, over the definitions of `trace`, `replay_steps` and `listing`.
+-- What a reader of `board_trace` must believe, over the definitions of `trace` and `listing`.
 pub mod Found
-pub mod Replayed

@@ -7,12 +7,7 @@ ghost use Prim.Native.Nat.{_≤_};
 ghost use lib.ListN.{length};
 ghost use Rattle.trace.specs.Write.{writtenOf, outOf, copiedOf, copyOf};
 ghost use Rattle.listing.specs.Listing.{listedOf, bufferOf, largest};
-ghost use mathlib.Core.Bool.{true};
-ghost use Rattle.state.specs.Sound.{soundState};
-ghost use Rattle.replay_steps.specs.FileSteps.{answersFrom};
 ghost use Rattle.board_trace.specs.Found.{foundIn};
-ghost use Rattle.board_trace.specs.Replayed.{lastOf, replayOf};
-use executive::Answer;
 use listing::Listed;
 use records::Event;
 use records::Header;
@@ -90,44 +85,4 @@ pub extern "C" fn thawonlai_listing(file: &[u8], out: &mut [u8]) -> Listed
     ensures { λ r. ⌜ (largest ≤ length (now (out .entry)) → r .status ≡ 0) ⌝ }
 {
     listing::listing(file, out)
-}
-
-// The answer to the last of at most `count` events from an offset on, or the one that is given.
-fn last_answer(opened: Answer, file: &[u8], first: usize, count: usize) -> Answer
-    requires { ⌜ soundState (opened .state) ≡ true ⌝ }
-    ensures { λ r. ⌜ r ≡ lastOf opened (answersFrom (opened .state) (now (file .entry)) first count) ⌝ }
-{
-    let mut a = opened;
-    let mut offset = first;
-    let mut left = count;
-    while 0 < left {
-        left -= 1;
-        let s = a.state;
-        let step = replay_steps::step_at(s, file, offset);
-        if !step.more {
-            return a;
-        }
-        offset = step.offset;
-        a = step.answer;
-    }
-    a
-}
-
-// The answer to the last of a file's first `count` events, with the state after it; to the opening where there is none.
-#[no_mangle]
-pub extern "C" fn thawonlai_replay(file: &[u8], count: usize) -> Answer
-    ensures { λ r. ⌜ r ≡ replayOf (now (file .entry)) count ⌝ }
-{
-    let begun = replay_steps::begin(file);
-    let answer = begun.answer;
-    if begun.status != 0 {
-        let state = answer.state;
-        return Answer {
-            status: begun.status,
-            running: 255,
-            next: 0,
-            state,
-        };
-    }
-    last_answer(answer, file, begun.offset, count)
 }

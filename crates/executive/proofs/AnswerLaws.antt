@@ -4,6 +4,7 @@ use mathlib.Core.Bool.{true, cond}
 use mathlib.Core.Path.{_≡_, _∙_}
 use lib.Dec.{eqb}
 use Rattle.ready.specs.Lists.{headOf}
+use Rattle.passing.specs.Sequence as sequence
 use Rattle.state.specs.declared.State.{State}
 use Rattle.state.specs.State.{threadAt}
 use Rattle.state.specs.Sound.{soundState}
@@ -15,7 +16,7 @@ use Rattle.executive.specs.Private.{answered}
 -- the highest list p, its head h, and thread i of that number
 pub answered-is : (status : ℕ) (s : State) → soundState s ≡ true → (p h i : ℕ) → p ≡ level s → h ≡ cond (eqb p 0) 0 (headOf p (s .lists)) → i ≡ h
     → (r m : ℕ) → r ≡ running s → m ≡ earlier (cond (eqb p 0) 0 (limitOf (s .now) p (threadAt s i))) (nextDue (s .counts) (s .dues) (s .header .n) .due)
-    → record { status = status; running = r; next = m; state = s } ≡ answered status s
+    → _≡_ {A = sequence.Answer State} (record { status = status; running = r; next = m; state = s }) (answered status s)
 answered-is status s a p h i e f g r m runs moment =
     let later = moment ∙ next-is s (state-out s a) p h i e f g in
     λ x. record { status = status; running = runs x; next = later x; state = s }

@@ -34,8 +34,6 @@ use Rattle.passing.specs.Sequence as sequence
 use Rattle.state.specs.Sound.{soundState}
 use Rattle.state.proofs.SoundLaws.{state-in}
 use Rattle.events.specs.Answers.{executive}
-use Rattle.executive.specs.declared.Answer.{Answer}
-use Rattle.executive.specs.Answer.{returned, openAnswer}
 use Rattle.executive.specs.Private.{answered, unread}
 
 pub empty-is : (header : Header) (l : List ℕ) → l ≡ replicate 1056 0
@@ -175,18 +173,18 @@ module _ (header : Header) (table : List Parameters) (k : ℕ) (z : k ≡ openSt
   closed : sequence.Answer State
   closed = record { status = openStatus header table; running = 255; next = 0; state = noState }
 
-  pub closed-is : (k ≡ 0 → ⊥) → (s : State) → s ≡ noState → unread k s ≡ openAnswer header table
+  pub closed-is : (k ≡ 0 → ⊥) → (s : State) → s ≡ noState → unread k s ≡ opening header table
   unfolding opening opened closed
   closed-is d s e =
       ap₂ unread z e
-      ∙ ap returned (sym (cond-false (eqb (openStatus header table) 0) opened closed (ne-eqb (openStatus header table) 0 (λ q. d (z ∙ q)))))
+      ∙ sym (cond-false (eqb (openStatus header table) 0) opened closed (ne-eqb (openStatus header table) 0 (λ q. d (z ∙ q))))
 
   module _ (y : k ≡ 0) (s : State) (e : s ≡ enteredBelow (header .n) table (emptyState header)) where
     pub opened-state : soundState s ≡ true
     opened-state = subst⁻¹ (λ (x : State). soundState x ≡ true) e (state-in (enteredBelow (header .n) table (emptyState header)) (opened-sound header table (sym z ∙ y)))
 
-    pub opened-is : answered 0 s ≡ openAnswer header table
+    pub opened-is : answered 0 s ≡ opening header table
     unfolding opening opened closed
     opened-is =
         ap (answered 0) e
-        ∙ ap returned (sym (cond-true (eqb (openStatus header table) 0) opened closed (eq-eqb (openStatus header table) 0 (sym z ∙ y))))
+        ∙ sym (cond-true (eqb (openStatus header table) 0) opened closed (eq-eqb (openStatus header table) 0 (sym z ∙ y)))

@@ -11,7 +11,7 @@ use Rattle.records.specs.declared.Event.{Event}
 use Rattle.records.specs.Ranges.{lastTime, longestStep}
 use Rattle.base.proofs.TestLaws.{tests, cond-false, false-true}
 use Rattle.base.specs.Refusals.{firstRefusal, given}
-use Rattle.passing.specs.Sequence.{status, refused}
+use Rattle.passing.specs.Sequence.{status, refused, answer}
 use Rattle.passing.specs.Time.{dueBy}
 use Rattle.passing.proofs.TimeLaws.{due-true, sound-advance, now-advance, advance-advance}
 use Rattle.passing.proofs.SequenceLaws.{answer-accepted, answer-refused, unsound-answer}
@@ -30,7 +30,6 @@ use Rattle.events.specs.Events.{happened}
 use Rattle.events.specs.Answers.{fieldStatus, stateStatusOf, stateStatus, executive}
 use Rattle.events.proofs.EventLaws.{happened-sound}
 use Rattle.events.proofs.DemandLaws.{field-passed}
-use Rattle.executive.specs.Answer.{returned, eventAnswer}
 use Rattle.executive.specs.Private.{answered, unread, timeStatus, earlyStatus, soundStatus}
 use Rattle.executive.proofs.StatusLaws.{time-zero, early-small, state-small, early-zero, thread-small}
 use Rattle.executive.proofs.KeptLaws.{status-kept}
@@ -69,7 +68,7 @@ module _ (x : Bool) (f : ℕ) (a b c : Bool) (d : ℕ) (e : x ≡ false) where
       past x 9 _ e ∙ given-zero f _ z ∙ past a 3 _ (p .0) ∙ past b 1 _ (q .0) ∙ past c 2 _ (refusals.passed c 1 _ (q .1) .0) ∙ given-last d
 
 -- a refusal by any number but 9
-returned-refused : (n : ℕ) (s : State) → (n ≡ 9 → ⊥) → returned (refused executive n s) ≡ answered n s
+returned-refused : (n : ℕ) (s : State) → (n ≡ 9 → ⊥) → refused executive n s ≡ answered n s
 returned-refused n s d =
     λ x. record {
       status = n;
@@ -78,8 +77,8 @@ returned-refused n s d =
       state = s;
     }
 
-pub unsound-is : (s : State) (e : Event) → soundState s ≡ false → unread 9 s ≡ eventAnswer s e
-unsound-is s e a = ap returned (sym (unsound-answer executive s a e))
+pub unsound-is : (s : State) (e : Event) → soundState s ≡ false → unread 9 s ≡ answer executive s e
+unsound-is s e a = sym (unsound-answer executive s a e)
 
 -- an event that is accepted from s₀, when time has come to s
 pub record Open (s₀ : State) (e : Event) (s : State) : Type 0 where
@@ -88,17 +87,17 @@ pub record Open (s₀ : State) (e : Event) (s : State) : Type 0 where
   pub top : e .time ≤ 1000000000000000
   pub fields : fieldStatus s e ≡ 0
   pub allows : stateStatus s e ≡ 0
-  pub same : answered 0 (happened (passed s (e .time)) e) ≡ eventAnswer s₀ e
+  pub same : answered 0 (happened (passed s (e .time)) e) ≡ answer executive s₀ e
 
 -- what holds between the turns of an event's loop
 pub record Stage (s₀ : State) (e : Event) (status : ℕ) (s : State) (done : Bool) : Type 0 where
   pub sound : soundState s ≡ true
-  pub ended : done ≡ true → answered status s ≡ eventAnswer s₀ e
+  pub ended : done ≡ true → answered status s ≡ answer executive s₀ e
   pub going : done ≡ false → (status ≡ 0) × Open s₀ e s
 
 module _ (s : State) (e : Event) (a : soundState s ≡ true) where
-  refused-is : (n : ℕ) → status executive s e ≡ n → 0 < n → n ≤ 8 → answered n s ≡ eventAnswer s e
-  refused-is n z l m = sym (returned-refused n s (λ q. omega arith)) ∙ ap returned (sym (answer-refused executive s e n z l))
+  refused-is : (n : ℕ) → status executive s e ≡ n → 0 < n → n ≤ 8 → answered n s ≡ answer executive s e
+  refused-is n z l m = sym (returned-refused n s (λ q. omega arith)) ∙ sym (answer-refused executive s e n z l)
 
   abbrev early : ℕ
   early = earlyStatus (s .header .n) (s .now) e
@@ -141,7 +140,7 @@ module _ (s : State) (e : Event) (a : soundState s ≡ true) where
         go (suc x) z = let d : early ≡ 0 → ⊥ = λ y. omega arith in status-early d ∙ sym (given-first early _ d) ∙ sym is
 
     -- refused
-    refusal : (k ≡ 0 → ⊥) → answered k s ≡ eventAnswer s e
+    refusal : (k ≡ 0 → ⊥) → answered k s ≡ answer executive s e
     refusal d =
         refused-is k judged (omega (arith, d))
         (omega (arith, is, status-at-most 8 (given early ∷ given late ∷ []) (omega (arith, early-small (s .header .n) (s .now) e), (state-small (e .kind) (idles s) (isBlocked (threadAt s i)), tt))))
@@ -160,7 +159,7 @@ module _ (s : State) (e : Event) (a : soundState s ≡ true) where
             top = times (n .0) .1;
             fields = fields (n .0);
             allows = named (n .0) ∙ n .1;
-            same = ap returned (sym (answer-accepted executive s e (judged ∙ y)));
+            same = sym (answer-accepted executive s e (judged ∙ y));
           }
 
 -- ---- an accepted event on its way
@@ -213,7 +212,7 @@ module _ (s₀ : State) (e : Event) (s : State) (o : Open s₀ e s) where
           let l = later in
           subst⁻¹ (λ (x : State). soundState x ≡ true) g (state-in (happened u e) (happened-sound u (state-out u (l .0)) e (l .1) (l .2)))
 
-      done-is : answered 0 r ≡ eventAnswer s₀ e
+      done-is : answered 0 r ≡ answer executive s₀ e
       done-is = ap (answered 0) (g ∙ ap (λ (x : State). happened x e) f) ∙ o .same
 
 -- ---- the turns of an event's loop

@@ -2,44 +2,49 @@
 ghost use mathlib.Core.Path.{_≡_};
 ghost use mathlib.Core.Bool.{true};
 ghost use Rattle.state.specs.Sound.{soundState};
-ghost use Rattle.executive.specs.Private.{answered, unread, timeStatus, earlyStatus, soundStatus};
+ghost use Rattle.state.specs.Updates.{whole};
+ghost use Rattle.executive.specs.Answer.{answerOf};
+ghost use Rattle.executive.specs.Private.{partsOf, answered, timeStatus, earlyStatus, soundStatus};
 use super::Answer;
 use super::parts;
 use records::Event;
 use records::LAST_TIME;
 use records::LONGEST_STEP;
-use state::State;
+use rows::Slots;
+use state::Core;
 
-// The answer that leaves a sound state.
-pub(super) fn answer_of(status: u8, s: State) -> Answer
-    requires { ⌜ soundState s ≡ true ⌝ }
-    ensures { λ r. ⌜ r ≡ answered status s ⌝ }
+// An answer of these parts: no other function lists its fields.
+pub(super) fn answer_of(status: u8, running: u8, next: u64, c: Core) -> Answer
+    ensures { λ r. ⌜ r ≡ partsOf status running next c ⌝ }
 {
-    let level = ready::highest(s.word);
-    let h = ticks::head_at(&s.lists, level);
-    let i = base::wide(h);
-    let t = s.threads[i];
-    let n = s.header.n as usize;
-    let runs = ticks::running(s.word, &s.lists);
-    let next = ticks::next_moment(s.now, level, t, &s.counts, &s.dues, n);
     Answer {
         status: status,
-        running: runs,
+        running: running,
         next: next,
-        state: s,
+        core: c,
     }
 }
 
-// The answer that names no running thread and no next moment: of a refused opening.
-pub(super) fn nothing_runs(status: u8, s: State) -> Answer
-    ensures { λ r. ⌜ r ≡ unread status s ⌝ }
+// The answer that names no running thread and no next moment: for 9, and of a refused opening.
+pub(super) fn nothing_runs(status: u8, c: Core) -> Answer
+    ensures { λ r. ⌜ r ≡ partsOf status 255 0 c ⌝ }
 {
-    Answer {
-        status: status,
-        running: 255,
-        next: 0,
-        state: s,
-    }
+    answer_of(status, 255, 0, c)
+}
+
+// The answer to an accepted opening.
+pub(super) fn opened_answer<'a>(c: Core, dues: &'a Slots, amounts: &'a Slots) -> Answer
+    requires { ⌜ soundState (whole c (now dues) (now amounts)) ≡ true ⌝ }
+    ensures { λ r. ⌜ answerOf r (now (dues .entry)) (now (amounts .entry)) ≡ answered 0 (whole c (now (dues .entry)) (now (amounts .entry))) ⌝ }
+{
+    let level = ready::highest(c.word);
+    let h = ticks::head_at(&c.lists, level);
+    let i = base::wide(h);
+    let t = c.threads[i];
+    let n = c.header.n as usize;
+    let runs = ticks::running(c.word, &c.lists);
+    let next = ticks::next_moment(c.now, level, t, &c.counts, dues, n);
+    answer_of(0, runs, next, c)
 }
 
 // 3, 1 or 2 by the time of the event, else 0.

@@ -2,39 +2,19 @@
 ghost use mathlib.Core.Path.{_≡_};
 ghost use mathlib.Core.Bool.{cond};
 ghost use Prim.Native.Nat.{_<_};
-ghost use lib.ListN.{length};
 ghost use lib.Dec.{leb};
-ghost use Rattle.records.specs.Ranges.{mostThreads};
 ghost use Rattle.account.specs.Rules.{Schedulable};
-ghost use Rattle.rows.specs.Rows.{allSlots};
 ghost use Rattle.ready.specs.Word.{occupancy};
 ghost use Rattle.ready.specs.Rules.{Joinable, Leavable, Movable};
-ghost use Rattle.state.specs.Updates.{withAccount};
+ghost use Rattle.thread.specs.Thread.{withServer};
 ghost use Rattle.events.specs.Events.{becomes, changeOf, shifted};
 use super::parts;
 use account::Account;
+use account::Pending;
 use events::Change;
 use ready::LIST_BYTES;
 use records::Event;
-use state::State;
 use thread::Thread;
-
-// Another thread and account at place i.
-pub(super) fn put(s0: State, i: usize, t: Thread, a: Account) -> State
-    requires { ⌜ (i < mostThreads) × (length (s0 .dues) ≡ allSlots) × (length (s0 .amounts) ≡ allSlots) ⌝ }
-    ensures { λ r. ⌜ r ≡ withAccount i t a s0 ⌝ }
-{
-    let mut s = s0;
-    let v = a.server;
-    let q = a.pending;
-    let dues = q.dues;
-    let amounts = q.amounts;
-    s.threads[i] = thread::with_server(t, v);
-    s.counts[i] = q.count;
-    rows::write_row(&mut s.dues, i, dues);
-    rows::write_row(&mut s.amounts, i, amounts);
-    s
-}
 
 // The thread that an event concerns: the running one, or the one that it names.
 pub(super) fn concerned(kind: u8, thread: u8, head: u8) -> u8
@@ -61,10 +41,15 @@ fn change_to(t: Thread, a: Account, u: Thread, b: Account) -> Change
 }
 
 // What an event does at its time to the thread that it concerns.
-pub(super) fn change_of(e: Event, t: Thread, a: Account) -> Change
-    requires { ⌜ (0 < e .kind) × (e .kind ≡ 1 → 1 < t .parameters .policy → Schedulable (t .parameters) (a .server) (a .pending .count)) ⌝ }
-    ensures { λ r. ⌜ r ≡ changeOf (e .kind) (e .time) (e .parameters) t a ⌝ }
+pub(super) fn change_of(e: Event, t: Thread, q: Pending) -> Change
+    requires { ⌜ (0 < e .kind) × (e .kind ≡ 1 → 1 < t .parameters .policy → Schedulable (t .parameters) (t .server) (q .count)) ⌝ }
+    ensures { λ r. ⌜ r ≡ changeOf (e .kind) (e .time) (e .parameters) t (record { server = t .server; pending = q }) ⌝ }
 {
+    let v = t.server;
+    let a = Account {
+        server: v,
+        pending: q,
+    };
     if e.kind == 1 {
         let u = thread::with_blocked(t, 1);
         let b = parts::after_block(e.time, t, a);
@@ -83,6 +68,14 @@ pub(super) fn change_of(e: Event, t: Thread, a: Account) -> Change
     let u = thread::renew(p, t);
     let b = parts::new_account(e.time, p);
     change_to(t, a, u, b)
+}
+
+// The thread with its account's server.
+pub(super) fn served(t: Thread, a: Account) -> Thread
+    ensures { λ r. ⌜ r ≡ withServer (a .server) t ⌝ }
+{
+    let v = a.server;
+    thread::with_server(t, v)
 }
 
 // Thread k leaves list `from` and becomes the tail of list `to`, 0 for none; the answer is the word of the lists as they

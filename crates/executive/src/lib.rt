@@ -1,20 +1,22 @@
-// The executive: opening, events and their answers.
+// The executive: opening, events and their answers. The state goes as a core by value with its slots lent.
 ghost use mathlib.Core.Path.{_≡_};
 ghost use mathlib.Core.Bool.{true};
 ghost use lib.ListN.{length};
 ghost use Rattle.records.specs.Ranges.{mostThreads};
 ghost use Rattle.rows.specs.Rows.{allSlots};
 ghost use Rattle.state.specs.Sound.{soundState};
-ghost use Rattle.executive.specs.Answer.{eventAnswer, openAnswer};
-ghost use Rattle.state.specs.Updates.{stateOf};
-use account::Account;
+ghost use Rattle.state.specs.Updates.{stateOf, whole};
+ghost use Rattle.passing.specs.Sequence.{answer};
+ghost use Rattle.events.specs.Answers.{executive};
+ghost use Rattle.events.specs.Opening.{opening};
+ghost use Rattle.executive.specs.Answer.{answerOf};
 use ready::LIST_BYTES;
 use records::Event;
 use records::Header;
 use records::Parameters;
 use records::THREADS;
-use rows::SLOTS;
-use state::State;
+use rows::Slots;
+use state::Core;
 use thread::Thread;
 
 mod answers; // answers.rt: who runs and when to ask again
@@ -22,30 +24,37 @@ mod changes; // changes.rt: what an accepted event does to the state
 mod opening; // opening.rt: the state that a table of threads gives
 mod parts; // parts.rt: what an event does to one thread and its account
 
-// Status, the running thread or 255, the next moment or 0, and the state.
+// Status, the running thread or 255, the next moment or 0, and the state without its slots.
 #[repr(C)]
 pub struct Answer {
     pub status: u8,
     pub running: u8,
     pub next: u64,
-    pub state: State,
+    pub core: Core,
 }
 
-// Opens a state: the first N threads of the table, at the start time. Any values may be handed in.
-pub fn open(header: Header, table: [Parameters; THREADS]) -> Answer
-    ensures { λ r. ⌜ r ≡ openAnswer header table ⌝ }
+// Opens a state: the first N threads of the table, at the start time. Any values may be handed in, whatever the slots held.
+pub fn open(
+    header: Header,
+    table: [Parameters; THREADS],
+    dues: &mut Slots,
+    amounts: &mut Slots,
+) -> Answer
+    ensures { λ r. ⌜ answerOf r (now (dues .exit)) (now (amounts .exit)) ≡ opening header table ⌝ }
 {
+    rows::clear(dues);
+    rows::clear(amounts);
     let status = opening::open_status(header, table);
     if status != 0 {
-        let none = opening::empty_state(Header { n: 0, start: 0 });
+        let none = opening::empty_core(Header { n: 0, start: 0 });
         return answers::nothing_runs(status, none);
     }
-    let s = opening::opened(header, table);
-    answers::answer_of(0, s)
+    let c = opening::opened(header, table, dues, amounts);
+    answers::opened_answer(c, dues, amounts)
 }
 
 // Whether a state of these parts is sound; where that is known, nothing is tested.
-fn known_sound<'a>(
+fn tested<'a>(
     known: bool,
     header: Header,
     time: u64,
@@ -53,8 +62,8 @@ fn known_sound<'a>(
     word: u32,
     threads: [Thread; THREADS],
     counts: &'a [u8; THREADS],
-    dues: &'a [u64; SLOTS],
-    amounts: &'a [u64; SLOTS],
+    dues: &'a Slots,
+    amounts: &'a Slots,
     lists: &'a [u8; LIST_BYTES],
 ) -> bool
     requires { ⌜ (known ≡ true → soundState (stateOf header time idle word threads (now counts) (now dues) (now amounts) (now lists)) ≡ true)
@@ -77,15 +86,18 @@ fn known_sound<'a>(
     )
 }
 
-// An event for a state that is changed in place: each call that took the state would copy it. The last turn of the loop
+// An event for a state that is changed in place: each call that took the core would copy it. The last turn of the loop
 // gives the answer; the turns before it bring the state to the event's time and do what the event does.
-fn answer_event(mut s: State, e: Event, known: bool) -> Answer
-    requires { ⌜ (known ≡ true → soundState s ≡ true) ⌝ }
-    ensures { λ r. ⌜ r ≡ eventAnswer s e ⌝ }
+fn answer_event(mut s: Core, dues: &mut Slots, amounts: &mut Slots, e: Event, known: bool) -> Answer
+    requires { ⌜ (known ≡ true → soundState (whole s (now dues) (now amounts)) ≡ true) ⌝ }
+    ensures { λ r. ⌜ answerOf r (now (dues .exit)) (now (amounts .exit)) ≡ answer executive (whole s (now (dues .entry)) (now (amounts .entry))) e ⌝ }
 {
+    // lent as slices, so that their lengths are known
+    rows::slots(dues);
+    rows::slots(amounts);
     let header = s.header;
     let threads = s.threads;
-    if !known_sound(
+    if !tested(
         known,
         header,
         s.now,
@@ -93,16 +105,11 @@ fn answer_event(mut s: State, e: Event, known: bool) -> Answer
         s.word,
         threads,
         &s.counts,
-        &s.dues,
-        &s.amounts,
+        dues,
+        amounts,
         &s.lists,
     ) {
-        return Answer {
-            status: base::NOT_SOUND,
-            running: 255,
-            next: 0,
-            state: s,
-        };
+        return answers::nothing_runs(base::NOT_SOUND, s);
     }
     let x = parts::index(e.thread);
     let named = s.threads[x];
@@ -114,19 +121,14 @@ fn answer_event(mut s: State, e: Event, known: bool) -> Answer
         let h = ticks::head_at(&s.lists, level);
         let i = base::wide(h);
         let runner = s.threads[i];
-        let next = ticks::next_moment(s.now, level, runner, &s.counts, &s.dues, n);
+        let next = ticks::next_moment(s.now, level, runner, &s.counts, dues, n);
         if done {
             let runs = ticks::running(s.word, &s.lists);
-            return Answer {
-                status: status,
-                running: runs,
-                next: next,
-                state: s,
-            };
+            return answers::answer_of(status, runs, next, s);
         }
-        // the state is copied only where a moment falls up to the event
+        // the core is copied only where a moment falls up to the event
         if ticks::due_by(next, e.time) {
-            s = moments::advance(s, e.time);
+            s = moments::advance(s, dues, amounts, e.time);
             continue;
         }
         done = true;
@@ -141,40 +143,31 @@ fn answer_event(mut s: State, e: Event, known: bool) -> Answer
         let number = changes::concerned(e.kind, e.thread, h);
         let j = base::wide(number);
         let t = s.threads[j];
-        let q = rows::pending_at(&s.counts, &s.dues, &s.amounts, j);
-        let v = t.server;
-        let a = Account {
-            server: v,
-            pending: q,
-        };
-        let c = changes::change_of(e, t, a);
+        let q = rows::pending_at(&s.counts, dues, amounts, j);
+        let c = changes::change_of(e, t, q);
         let u = c.thread;
         let b = c.account;
-        let served = b.server;
         let pending = b.pending;
-        let dues = pending.dues;
-        let amounts = pending.amounts;
-        let changed = thread::with_server(u, served);
+        let changed = changes::served(u, b);
         s.threads[j] = changed;
         s.counts[j] = pending.count;
-        rows::write_row(&mut s.dues, j, dues);
-        rows::write_row(&mut s.amounts, j, amounts);
+        rows::write_pending(dues, amounts, j, pending);
         let word = s.word;
         s.word = changes::shift(&mut s.lists, word, number, c.from, c.to);
     }
 }
 
 // An event for a state that is known to be sound.
-pub fn step(s: State, e: Event) -> Answer
-    requires { ⌜ soundState s ≡ true ⌝ }
-    ensures { λ r. ⌜ r ≡ eventAnswer s e ⌝ }
+pub fn step(c: Core, dues: &mut Slots, amounts: &mut Slots, e: Event) -> Answer
+    requires { ⌜ soundState (whole c (now dues) (now amounts)) ≡ true ⌝ }
+    ensures { λ r. ⌜ answerOf r (now (dues .exit)) (now (amounts .exit)) ≡ answer executive (whole c (now (dues .entry)) (now (amounts .entry))) e ⌝ }
 {
-    answer_event(s, e, true)
+    answer_event(c, dues, amounts, e, true)
 }
 
 // An event for any state: one that is not sound is refused with 9 and comes back as it was.
-pub fn event(s: State, e: Event) -> Answer
-    ensures { λ r. ⌜ r ≡ eventAnswer s e ⌝ }
+pub fn event(c: Core, dues: &mut Slots, amounts: &mut Slots, e: Event) -> Answer
+    ensures { λ r. ⌜ answerOf r (now (dues .exit)) (now (amounts .exit)) ≡ answer executive (whole c (now (dues .entry)) (now (amounts .entry))) e ⌝ }
 {
-    answer_event(s, e, false)
+    answer_event(c, dues, amounts, e, false)
 }

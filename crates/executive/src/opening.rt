@@ -3,11 +3,12 @@ ghost use mathlib.Core.Path.{_≡_};
 ghost use mathlib.Core.Bool.{false, cond, _&&_};
 ghost use Prim.Native.Nat.{_<_, _≤_};
 ghost use lib.Dec.{leb, eqb};
-ghost use lib.ListN.{length, getD};
+ghost use lib.ListN.{length, getD, replicate};
 ghost use Rattle.base.specs.Tests.{below};
 ghost use Rattle.records.specs.Ranges.{mostThreads, mostReplenishments, inRange, noParameters};
 ghost use Rattle.rows.specs.Rows.{allSlots};
 ghost use Rattle.ready.specs.Word.{occupancy};
+ghost use Rattle.state.specs.Updates.{whole};
 ghost use Rattle.ready.specs.Rules.{Joinable};
 ghost use Rattle.events.specs.Opening.{emptyState, withoutFlag, entered, enteredBelow, openStatus};
 use super::changes;
@@ -17,14 +18,14 @@ use records::Header;
 use records::LAST_TIME;
 use records::Parameters;
 use records::THREADS;
-use rows::SLOTS;
+use rows::Slots;
 use sporadic::Server;
-use state::State;
+use state::Core;
 use thread::Thread;
 
 // A state of N threads in which none of them is there yet.
-pub(super) fn empty_state(header: Header) -> State
-    ensures { λ r. ⌜ r ≡ emptyState header ⌝ }
+pub(super) fn empty_core(header: Header) -> Core
+    ensures { λ r. ⌜ whole r (replicate allSlots 0) (replicate allSlots 0) ≡ emptyState header ⌝ }
 {
     let none = Thread {
         parameters: Parameters {
@@ -45,15 +46,13 @@ pub(super) fn empty_state(header: Header) -> State
             activation: 0,
         },
     };
-    State {
+    Core {
         header: header,
         now: header.start,
         idle: 0,
         word: 0,
         threads: [none; THREADS],
         counts: [0u8; THREADS],
-        dues: [0u64; SLOTS],
-        amounts: [0u64; SLOTS],
         lists: ready::empty(),
     }
 }
@@ -129,18 +128,23 @@ fn starts_blocked(flag: u32) -> u8
 }
 
 // Thread k enters with its parameters; with the start flag it becomes the tail of its list.
-fn enter(s: State, k: u8, p: Parameters) -> State
-    requires { ⌜ (k < mostThreads) × (length (s .dues) ≡ allSlots) × (length (s .amounts) ≡ allSlots) × (s .word ≡ occupancy (s .lists))
-        × (eqb (p .flag) 0 ≡ false → Joinable (s .word) (p .priority) (s .lists)) ⌝ }
-    ensures { λ r. ⌜ r ≡ entered k p s ⌝ }
+fn enter(c: Core, dues: &mut Slots, amounts: &mut Slots, k: u8, p: Parameters) -> Core
+    requires { ⌜ (k < mostThreads) × (length (now dues) ≡ allSlots) × (length (now amounts) ≡ allSlots) × (c .word ≡ occupancy (c .lists))
+        × (eqb (p .flag) 0 ≡ false → Joinable (c .word) (p .priority) (c .lists)) ⌝ }
+    ensures { λ r. ⌜ whole r (now (dues .exit)) (now (amounts .exit)) ≡ entered k p (whole c (now (dues .entry)) (now (amounts .entry))) ⌝ }
 {
     let i = base::wide(k);
     let q = without_flag(p);
-    let none = s.threads[i];
+    let none = c.threads[i];
     let t = thread::with_blocked(none, starts_blocked(p.flag));
     let u = thread::renew(q, t);
-    let b = parts::new_account(s.now, q);
-    let mut r = changes::put(s, i, u, b);
+    let b = parts::new_account(c.now, q);
+    let pending = b.pending;
+    let mut r = c;
+    let served = changes::served(u, b);
+    r.threads[i] = served;
+    r.counts[i] = pending.count;
+    rows::write_pending(dues, amounts, i, pending);
     if p.flag == 0 {
         return r;
     }
@@ -149,16 +153,21 @@ fn enter(s: State, k: u8, p: Parameters) -> State
     r
 }
 
-// The first N threads of the table enter, in number order.
-pub(super) fn opened(header: Header, table: [Parameters; THREADS]) -> State
-    requires { ⌜ openStatus header table ≡ 0 ⌝ }
-    ensures { λ r. ⌜ r ≡ enteredBelow (header .n) table (emptyState header) ⌝ }
+// The first N threads of the table enter, in number order; the slots hold 0 before.
+pub(super) fn opened(
+    header: Header,
+    table: [Parameters; THREADS],
+    dues: &mut Slots,
+    amounts: &mut Slots,
+) -> Core
+    requires { ⌜ (openStatus header table ≡ 0) × (now dues ≡ replicate allSlots 0) × (now amounts ≡ replicate allSlots 0) ⌝ }
+    ensures { λ r. ⌜ whole r (now (dues .exit)) (now (amounts .exit)) ≡ enteredBelow (header .n) table (emptyState header) ⌝ }
 {
-    let mut s = empty_state(header);
+    let mut s = empty_core(header);
     let mut k: u32 = 0;
     while k < header.n {
         let p = table[k as usize];
-        s = enter(s, k as u8, p);
+        s = enter(s, dues, amounts, k as u8, p);
         k = k + 1;
     }
     s

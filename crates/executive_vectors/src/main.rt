@@ -6,6 +6,7 @@ mod look; // look.rt: four numbers of a state
 mod make; // make.rt: parameters, events and the state of zeros
 mod report; // report.rt: a line for each case
 mod run; // run.rt: what a line does
+mod whole; // whole.rt: the executive on whole states
 
 // Takes the cases in byte by byte; a newline runs the line that it ends.
 fn cases(file: &[u8]) {

@@ -7,7 +7,8 @@ use super::make;
 use super::make::wide;
 use super::report;
 use super::report::Tally;
-use executive::Answer;
+use super::whole;
+use super::whole::Answered;
 use records::Event;
 use records::Header;
 use records::Parameters;
@@ -39,16 +40,16 @@ pub(super) fn start() -> Run {
 }
 
 // 0 where the state is as the status says: sound and at the time, or as it was before; else 1.
-fn fault(before: State, a: Answer, time: u64) -> u64 {
+fn fault(before: State, a: Answered, time: u64) -> u64 {
     let s = a.state;
     let mut right = compare::same_state(before, s);
     if a.status == 0 {
-        right = state::sound(s) & (s.now == time);
+        right = whole::sound(s) & (s.now == time);
     }
     !right as u64
 }
 
-fn outcome_of(before: State, a: Answer, time: u64) -> Outcome {
+fn outcome_of(before: State, a: Answered, time: u64) -> Outcome {
     let s = a.state;
     let f = fault(before, a, time);
     Outcome {
@@ -64,12 +65,12 @@ fn opened(table: [Parameters; THREADS], x: [u64; 20]) -> Outcome {
         n: change::word(x[1]),
         start: start,
     };
-    let a = executive::open(header, table);
+    let a = whole::open(header, table);
     outcome_of(make::zeros(), a, start)
 }
 
 fn given(before: State, e: Event) -> Outcome {
-    let a = executive::event(before, e);
+    let a = whole::event(before, e);
     outcome_of(before, a, e.time)
 }
 
@@ -90,15 +91,15 @@ fn judged(s: State) -> [u64; 4] {
         thread: 0,
         parameters: make::none(),
     };
-    let a = executive::event(s, e);
+    let a = whole::event(s, e);
     let back = a.state;
-    let right = compare::same_state(s, back) & (state::sound(s) == (a.status == 0));
+    let right = compare::same_state(s, back) & (whole::sound(s) == (a.status == 0));
     [wide(a.status), wide(a.running), a.next, !right as u64]
 }
 
 // Parameters at opening and by a set of thread 0.
 fn tried(s: State, p: Parameters) -> [u64; 4] {
-    let a = executive::open(Header { n: 1, start: 0 }, [p; THREADS]);
+    let a = whole::open(Header { n: 1, start: 0 }, [p; THREADS]);
     let f = fault(make::zeros(), a, 0);
     let mut q = p;
     q.flag = 0;
@@ -108,7 +109,7 @@ fn tried(s: State, p: Parameters) -> [u64; 4] {
         thread: 0,
         parameters: q,
     };
-    let b = executive::event(s, e);
+    let b = whole::event(s, e);
     let g = fault(s, b, s.now);
     [wide(a.status), wide(b.status), f, g]
 }

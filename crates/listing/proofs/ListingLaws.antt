@@ -12,13 +12,12 @@ use Rattle.base.proofs.TestLaws.{cond-elim, cond-true, cond-false}
 use Rattle.state.specs.declared.State.{State}
 use Rattle.text.specs.Placed.{placed, Put}
 use Rattle.text.proofs.PlacedLaws.{after}
-use Rattle.executive.specs.declared.Answer.{Answer}
+use Rattle.passing.specs.Sequence.{Answer}
 use Rattle.trace_records.specs.Layout.{mostEvents, longestFile}
 use Rattle.trace_records.specs.Records.{fieldsOf}
 use Rattle.trace_contents.specs.Read.{headerRight, readStatus}
 use Rattle.trace_contents.proofs.ReadLaws.{right, read-refused}
-use Rattle.replay_steps.specs.declared.Begun.{Begun}
-use Rattle.replay_steps.specs.FileSteps.{begunOf, answersTo, closing, answersFrom, endFrom}
+use Rattle.replay_steps.specs.FileSteps.{Beginning, begunOf, answersTo, closing, answersFrom, endFrom}
 use Rattle.replay_steps.proofs.FileLaws.{steps-answer-all, begun-unread}
 use Rattle.listing.specs.declared.Listed.{Listed}
 use Rattle.listing.specs.Lines.{headerLine, eventLines, threadLines, idleLine, refusedLine}
@@ -33,11 +32,11 @@ unfolding listingOf
 refused file n = cond-false (eqb (begunOf file .status) 0) (replayOf file) (refusedLine (begunOf file .status)) (ne-eqb (begunOf file .status) 0 n)
 
 -- the line of a refusal is the listing of a file that was refused
-pub refusal-put : {o o₁ : List ℕ} {r : ℕ} (file : List ℕ) (b : Begun) → b ≡ begunOf file → (b .status ≡ 0 → ⊥)
+pub refusal-put : {o o₁ : List ℕ} {r : ℕ} (file : List ℕ) (b : Beginning) → b ≡ begunOf file → (b .status ≡ 0 → ⊥)
     → Put o 0 (refusedLine (b .status)) o₁ r → Put o 0 (listingOf file) o₁ r
 refusal-put {o} {o₁} {r} file b e n p =
     subst (λ (v : List ℕ). Put o 0 v o₁ r)
-    (ap (λ (x : Begun). refusedLine (x .status)) e ∙ sym (refused file (λ z. n (ap (λ (x : Begun). x .status) e ∙ z)))) p
+    (ap (λ (x : Beginning). refusedLine (x .status)) e ∙ sym (refused file (λ z. n (ap (λ (x : Beginning). x .status) e ∙ z)))) p
 
 -- header, events, threads and idle time, one after another, are that of any other
 module _ {o o₁ o₂ o₃ : List ℕ} {r₁ r₂ r₃ : ℕ} (file : List ℕ) (s : State) (h₁ : r₁ ≤ length o) (h₂ : r₂ ≤ length o)
@@ -50,7 +49,7 @@ module _ {o o₁ o₂ o₃ : List ℕ} {r₁ r₂ r₃ : ℕ} (file : List ℕ) 
   replay-of z d e =
       let w = steps-answer-all file z in
       let events : Put o₁ r₁ (eventLines 0 (answersTo file)) o₂ r₂ =
-      subst (λ (l : List Answer). Put o₁ r₁ (eventLines 0 l) o₂ r₂) (w .0) d in
+      subst (λ (l : List (Answer State)). Put o₁ r₁ (eventLines 0 l) o₂ r₂) (w .0) d in
       let rest : Put o₂ r₂ (threadLines (closing file) (closing file .header .n) ++ idleLine (closing file .idle)) o₃ r₃ =
       subst (λ (x : State). Put o₂ r₂ (threadLines x (x .header .n) ++ idleLine (x .idle)) o₃ r₃) (e ∙ w .1) q in
       subst (λ (v : List ℕ). Put o 0 v o₃ r₃)
@@ -59,13 +58,13 @@ module _ {o o₁ o₂ o₃ : List ℕ} {r₁ r₂ r₃ : ℕ} (file : List ℕ) 
       ∙ sym (replayed file z))
       (after h₂ (after h₁ p events) rest)
 
-  pub replay-put : (b : Begun) → b ≡ begunOf file → b .status ≡ 0
+  pub replay-put : (b : Beginning) → b ≡ begunOf file → b .status ≡ 0
       → Put o₁ r₁ (eventLines 0 (answersFrom (b .answer .state) file (b .offset) mostEvents)) o₂ r₂
       → s ≡ endFrom (b .answer .state) file (b .offset) mostEvents
       → Put o 0 (listingOf file) o₃ r₃
   replay-put b e =
       subst⁻¹
-      (λ (x : Begun). x .status ≡ 0
+      (λ (x : Beginning). x .status ≡ 0
       → Put o₁ r₁ (eventLines 0 (answersFrom (x .answer .state) file (x .offset) mostEvents)) o₂ r₂
       → s ≡ endFrom (x .answer .state) file (x .offset) mostEvents
       → Put o 0 (listingOf file) o₃ r₃)

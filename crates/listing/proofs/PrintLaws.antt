@@ -14,8 +14,7 @@ use Rattle.text.specs.Placed.{Put}
 use Rattle.text.proofs.PlacedLaws.{nothing, after}
 use Rattle.trace.specs.Lists.{joined}
 use Rattle.trace.proofs.RunLaws.{joined-next}
-use Rattle.replay_steps.specs.declared.Stepped.{Stepped}
-use Rattle.replay_steps.specs.FileSteps.{answersFrom}
+use Rattle.replay_steps.specs.FileSteps.{FileStep, answersFrom}
 use Rattle.replay_steps.proofs.FileLaws.{Goes, Stops}
 use Rattle.listing.specs.Lines.{eventLine, threadLine, eventLines, threadLines}
 
@@ -42,7 +41,7 @@ printed-all {o} {out} {at} {here} p e =
     subst (λ (v : List ℕ). Put o at v out here) (sym (append-nil (p .text)) ∙ ap (λ (l : List ℕ). p .text ++ l) (sym e) ∙ p .all) (p .put)
 
 -- the line of an event that was answered, and those of the events after it
-pub line-next : (s : State) (file : List ℕ) (offset k i : ℕ) (r : Stepped) → Goes s file offset k r
+pub line-next : (s : State) (file : List ℕ) (offset k i : ℕ) (r : FileStep) → Goes s file offset k r
     → eventLines i (answersFrom s file offset (suc k))
     ≡ eventLine i (r .answer .status) (r .answer .running) (r .answer .next) ++ eventLines (i + 1) (answersFrom (r .answer .state) file (r .offset) k)
 unfolding eventLines

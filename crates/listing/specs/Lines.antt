@@ -5,7 +5,7 @@ use lib.ListN.{getD}
 use Rattle.text.specs.Fields.{space, newline, labelled, row}
 use Rattle.state.specs.declared.State.{State}
 use Rattle.state.specs.State.{threadAt}
-use Rattle.executive.specs.declared.Answer.{Answer}
+use Rattle.passing.specs.Sequence.{Answer}
 use Rattle.trace.specs.Lists.{joined}
 
 -- the words `thread`, `idle` and `refused`, each with a space after it
@@ -40,7 +40,7 @@ unfoldable pub refusedLine : ℕ → List ℕ
 refusedLine n = labelled refusedWord n
 
 -- a line for each answer, the first of them to event i
-unfoldable pub eventLines : ℕ → List Answer → List ℕ
+unfoldable pub eventLines : ℕ → List (Answer State) → List ℕ
 eventLines i [] = []
 eventLines i (a ∷ rest) = eventLine i (a .status) (a .running) (a .next) ++ eventLines (suc i) rest
 

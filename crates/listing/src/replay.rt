@@ -1,40 +1,54 @@
 // The lines of a file.
 ghost use mathlib.Core.Path.{_≡_};
 ghost use mathlib.Core.Bool.{true};
-ghost use mathlib.Core.List.{_++_};
-ghost use Prim.Native.Nat.{_+_, _≤_};
+ghost use mathlib.Core.List.{List, _++_};
+ghost use Prim.Native.Nat.{ℕ, _+_, _≤_};
 ghost use lib.ListN.{length};
 ghost use Rattle.trace_records.specs.Layout.{mostEvents};
+ghost use Rattle.records.specs.Ranges.{mostThreads};
 ghost use Rattle.state.specs.Sound.{soundState};
+ghost use Rattle.state.specs.Updates.{whole};
 ghost use Rattle.text.specs.Placed.{Put};
 ghost use Rattle.replay_steps.specs.FileSteps.{answersFrom, endFrom};
 ghost use Rattle.listing.specs.Lines.{eventLines, threadLines, idleLine};
 ghost use Rattle.listing.specs.Listing.{listingOf, largest};
 ghost use Rattle.listing.specs.Private.{eventLinesMost, closingMost};
 use super::lines;
-use state::State;
+use rows::SLOTS;
+use rows::Slots;
+use state::Core;
 use trace_records::EVENTS;
 
-// Where the lines of the events end, and the state that the last event left.
+// Where the lines of the events end, and the state that the last event left, without its slots.
 struct Ended {
     at: usize,
-    state: State,
+    core: Core,
 }
 
 // A line for each event from an offset on.
-fn put_events(out: &mut [u8], at: usize, opened: State, file: &[u8], first: usize) -> Ended
-    requires { ⌜ (soundState opened ≡ true) × (at + eventLinesMost ≤ length (now out)) ⌝ }
-    ensures { λ r. ⌜ Put (now (out .entry)) at (eventLines 0 (answersFrom opened (now (file .entry)) first mostEvents)) (now (out .exit)) (r .at) ⌝ }
-    ensures { λ r. ⌜ (r .state ≡ endFrom opened (now (file .entry)) first mostEvents) × (soundState (r .state) ≡ true) × (r .at ≤ at + eventLinesMost) ⌝ }
+fn put_events(
+    out: &mut [u8],
+    at: usize,
+    opened: Core,
+    dues: &mut Slots,
+    amounts: &mut Slots,
+    file: &[u8],
+    first: usize,
+) -> Ended
+    requires { ⌜ (soundState (whole opened (now dues) (now amounts)) ≡ true) × (at + eventLinesMost ≤ length (now out)) ⌝ }
+    ensures { λ r. ⌜ Put (now (out .entry)) at (eventLines 0 (answersFrom (whole opened (now (dues .entry)) (now (amounts .entry))) (now (file .entry)) first mostEvents)) (now (out .exit)) (r .at) ⌝ }
+    ensures { λ r. ⌜ (whole (r .core) (now (dues .exit)) (now (amounts .exit)) ≡ endFrom (whole opened (now (dues .entry)) (now (amounts .entry))) (now (file .entry)) first mostEvents)
+        × (soundState (whole (r .core) (now (dues .exit)) (now (amounts .exit))) ≡ true) × (r .at ≤ at + eventLinesMost) ⌝ }
 {
     let mut s = opened;
     let mut offset = first;
     let mut here = at;
     let mut i = 0;
     while i < EVENTS {
-        let step = replay_steps::step_at(s, file, offset);
+        let step = replay_steps::step_at(s, dues, amounts, file, offset);
         if !step.more {
-            return Ended { at: here, state: s };
+            let core = step.answer.core;
+            return Ended { at: here, core };
         }
         here = lines::put_event(
             out,
@@ -44,28 +58,28 @@ fn put_events(out: &mut [u8], at: usize, opened: State, file: &[u8], first: usiz
             step.answer.running,
             step.answer.next,
         );
-        s = step.answer.state;
+        s = step.answer.core;
         offset = step.offset;
         i += 1;
     }
-    Ended { at: here, state: s }
+    Ended { at: here, core: s }
 }
 
-// A line for each thread, and the idle line.
-fn put_threads(out: &mut [u8], at: usize, s: State) -> usize
-    requires { ⌜ (soundState s ≡ true) × (at + closingMost ≤ length (now out)) ⌝ }
-    ensures { λ r. ⌜ Put (now (out .entry)) at (threadLines s (s .header .n) ++ idleLine (s .idle)) (now (out .exit)) r ⌝ }
+// A line for each thread, and the idle line, whatever the slots hold.
+fn put_threads(out: &mut [u8], at: usize, c: Core) -> usize
+    requires { ⌜ (c .header .n ≤ mostThreads) × (at + closingMost ≤ length (now out)) ⌝ }
+    ensures { λ r. ⌜ ((dues amounts : List ℕ) → Put (now (out .entry)) at (threadLines (whole c dues amounts) (c .header .n) ++ idleLine (c .idle)) (now (out .exit)) r) ⌝ }
     ensures { λ r. ⌜ r ≤ at + closingMost ⌝ }
 {
-    let n = s.header.n as usize;
+    let n = c.header.n as usize;
     let mut here = at;
     let mut i = 0;
     while i < n {
-        let t = s.threads[i];
-        here = lines::put_thread(out, here, i as u64, t.server.capacity, s.counts[i], t.total);
+        let t = c.threads[i];
+        here = lines::put_thread(out, here, i as u64, t.server.capacity, c.counts[i], t.total);
         i += 1;
     }
-    lines::put_labelled(out, here, b"idle ", s.idle)
+    lines::put_labelled(out, here, b"idle ", c.idle)
 }
 
 // The whole listing from the buffer's start on.
@@ -74,15 +88,25 @@ pub(super) fn put_listing(out: &mut [u8], file: &[u8]) -> usize
     ensures { λ r. ⌜ Put (now (out .entry)) 0 (listingOf (now (file .entry))) (now (out .exit)) r ⌝ }
     ensures { λ r. ⌜ r ≤ largest ⌝ }
 {
-    let begun = replay_steps::begin(file);
+    let mut dues = [0u64; SLOTS];
+    let mut amounts = [0u64; SLOTS];
+    let begun = replay_steps::begin(file, &mut dues, &mut amounts);
     let status = begun.status;
     if status != 0 {
         return lines::put_labelled(out, 0, b"refused ", status as u64);
     }
     let a = begun.answer;
-    let opened = a.state;
+    let opened = a.core;
     let here = lines::put_header(out, 0);
-    let ended = put_events(out, here, opened, file, begun.offset);
-    let last = ended.state;
+    let ended = put_events(
+        out,
+        here,
+        opened,
+        &mut dues,
+        &mut amounts,
+        file,
+        begun.offset,
+    );
+    let last = ended.core;
     put_threads(out, ended.at, last)
 }

@@ -12,7 +12,6 @@ use Rattle.base.proofs.TestLaws.{cond-true, cond-false}
 use Rattle.text_lines.specs.Lines.{linesOf, differenceFrom, firstDifference}
 use Rattle.text.specs.Fields.{newline}
 use Rattle.text_lines.proofs.LineLaws.{no-difference, next-both, byte-apart, end-first}
-use Rattle.replay_steps.specs.declared.Begun.{Begun}
 use Rattle.replay_steps.specs.FileSteps.{begunOf}
 use Rattle.listing.specs.declared.Listed.{Listed}
 use Rattle.listing.specs.Listing.{listingOf, listedOf, bufferOf}
@@ -60,20 +59,19 @@ lines-decide file theirs z = ap (λ (n : ℕ). byStatus n (byLine (firstDifferen
 no-line-differs : (file theirs : List ℕ) → begunOf file .status ≡ 0 → firstDifference (listingOf file) theirs ≡ 0 → verdictOf file theirs ≡ verdict.Same
 no-line-differs file theirs z h = lines-decide file theirs z ∙ ap byLine h
 
--- the verdict as the code makes it of what was begun and of the line that was found
-module _ (file theirs : List ℕ) (b : Begun) (e : b ≡ begunOf file) where
-  pub is-refused : (b .status ≡ 0 → ⊥) → verdict.Refused (b .status) ≡ verdictOf file theirs
-  is-refused n =
-      ap (λ (x : Begun). verdict.Refused (x .status)) e ∙ sym (refused-first file theirs (λ z. n (ap (λ (x : Begun). x .status) e ∙ z)))
+-- the verdict as the code makes it of the status n of the file's beginning and of the line that was found
+module _ (file theirs : List ℕ) (n : ℕ) (e : n ≡ begunOf file .status) where
+  pub is-refused : (n ≡ 0 → ⊥) → verdict.Refused n ≡ verdictOf file theirs
+  is-refused d = ap verdict.Refused e ∙ sym (refused-first file theirs (λ z. d (e ∙ z)))
 
-  pub is-by-line : (k : ℕ) → b .status ≡ 0 → k ≡ firstDifference (listingOf file) theirs → byLine k ≡ verdictOf file theirs
-  is-by-line k z f = ap byLine f ∙ sym (lines-decide file theirs (sym (ap (λ (x : Begun). x .status) e) ∙ z))
+  is-by-line : (k : ℕ) → n ≡ 0 → k ≡ firstDifference (listingOf file) theirs → byLine k ≡ verdictOf file theirs
+  is-by-line k z f = ap byLine f ∙ sym (lines-decide file theirs (sym e ∙ z))
 
-  pub is-differs : (k : ℕ) → b .status ≡ 0 → k ≡ firstDifference (listingOf file) theirs → (k ≡ 0 → ⊥) → verdict.Differs k ≡ verdictOf file theirs
-  is-differs k z f n = sym (differs-by k n) ∙ is-by-line k z f
+  pub is-differs : (k : ℕ) → n ≡ 0 → k ≡ firstDifference (listingOf file) theirs → (k ≡ 0 → ⊥) → verdict.Differs k ≡ verdictOf file theirs
+  is-differs k z f d = sym (differs-by k d) ∙ is-by-line k z f
 
-  pub is-same : (k : ℕ) → b .status ≡ 0 → k ≡ firstDifference (listingOf file) theirs → k ≡ 0 → verdict.Same ≡ verdictOf file theirs
-  is-same k z f n = sym (ap byLine n) ∙ is-by-line k z f
+  pub is-same : (k : ℕ) → n ≡ 0 → k ≡ firstDifference (listingOf file) theirs → k ≡ 0 → verdict.Same ≡ verdictOf file theirs
+  is-same k z f d = sym (ap byLine d) ∙ is-by-line k z f
 
 -- yes is said in one case alone
 abbrev isOther : Verdict → ℕ

@@ -36,8 +36,7 @@ fn compared(file: &[u8], theirs: &[u8]) -> usize
 pub fn verdict_of(file: &[u8], theirs: &[u8]) -> Verdict
     ensures { λ r. ⌜ r ≡ verdictOf (now (file .entry)) (now (theirs .entry)) ⌝ }
 {
-    let begun = replay_steps::begin(file);
-    let status = begun.status;
+    let status = replay_steps::begin_status(file);
     if status != 0 {
         return Verdict::Refused(status);
     }

@@ -13,6 +13,7 @@ ghost use Rattle.ready.specs.Word.{occupancy};
 ghost use Rattle.ready.specs.Rules.{Movable};
 ghost use Rattle.rows.specs.Rows.{allSlots, slotsAt, withSlots};
 ghost use Rattle.state.specs.Sound.{soundState};
+ghost use Rattle.state.specs.Updates.{whole};
 ghost use Rattle.thread.specs.Thread.{isBlocked, withLeft};
 ghost use Rattle.ticks.specs.Running.{earlier};
 ghost use Rattle.moments.specs.Changes.{sentTo};
@@ -21,10 +22,10 @@ use account::ENTRIES;
 use base::wide;
 use ready::LIST_BYTES;
 use records::Parameters;
-use rows::SLOTS;
+use rows::Slots;
 use sporadic::Effect;
 use sporadic::Place;
-use state::State;
+use state::Core;
 use thread::Thread;
 
 // Whether the earlier of the two is the limit: where both fall on one instant, the limit comes first.
@@ -116,7 +117,7 @@ fn effect_at(limited: bool, time: u64, t: Thread, count: u8, amount: u64) -> Eff
 }
 
 // Thread i's dues or amounts after it: x is the due time or the amount of an entry that came.
-fn change_row(xs: &mut [u64; SLOTS], i: usize, first: bool, amount: u64, count: u8, x: u64)
+fn change_row(xs: &mut Slots, i: usize, first: bool, amount: u64, count: u8, x: u64)
     requires { ⌜ (i < mostThreads) × (length (now xs) ≡ allSlots) × Room first amount count ⌝ }
     ensures { λ _. ⌜ now (xs .exit) ≡ withSlots i (slotsAfter first amount count x (slotsAt i (now (xs .entry)))) (now (xs .entry)) ⌝ }
 {
@@ -132,14 +133,13 @@ fn change_row(xs: &mut [u64; SLOTS], i: usize, first: bool, amount: u64, count: 
 
 // The state at the time t. Each turn charges the ticks up to the next moment and does one thing that happens at it: the
 // limit or the end of the quantum first, then what is due, by thread number. The next turn finds what is still due now.
-pub fn advance(s0: State, t: u64) -> State
-    requires { ⌜ (soundState s0 ≡ true) × (s0 .now ≤ t) × (t ≤ lastTime) ⌝ }
-    ensures { λ r. ⌜ r ≡ passed s0 t ⌝ }
+// The core is changed in place: a call that took it would copy it.
+pub fn advance(mut s: Core, dues: &mut Slots, amounts: &mut Slots, t: u64) -> Core
+    requires { ⌜ (soundState (whole s (now dues) (now amounts)) ≡ true) × (s .now ≤ t) × (t ≤ lastTime) ⌝ }
+    ensures { λ r. ⌜ whole r (now (dues .exit)) (now (amounts .exit)) ≡ passed (whole s (now (dues .entry)) (now (amounts .entry))) t ⌝ }
 {
-    // changed in place: a call that took the state would copy it
-    let mut s = s0;
     let n = s.header.n as usize;
-    let mut x = ticks::next_due(&s.counts, &s.dues, n);
+    let mut x = ticks::next_due(&s.counts, dues, n);
     loop {
         let p = ready::highest(s.word);
         let h = ticks::head_at(&s.lists, p);
@@ -173,7 +173,7 @@ pub fn advance(s0: State, t: u64) -> State
         let at = j * ENTRIES;
         let w = s.threads[j];
         let count = s.counts[j];
-        let next = s.amounts[at];
+        let next = amounts[at];
         let e = effect_at(limited, m, w, count, next);
         let place = e.place;
         let served = e.server;
@@ -188,13 +188,13 @@ pub fn advance(s0: State, t: u64) -> State
         s.word = send(&mut s.lists, word, number, parameters, place);
         let pending = account::count_after(first, amount, count);
         s.counts[j] = pending;
-        change_row(&mut s.dues, j, first, amount, count, due);
-        change_row(&mut s.amounts, j, first, amount, count, amount);
+        change_row(dues, j, first, amount, count, due);
+        change_row(amounts, j, first, amount, count, amount);
         if limited {
-            let d = s.dues[at];
+            let d = dues[at];
             x = ticks::after_limit(x, j, pending, d);
             continue;
         }
-        x = ticks::next_due_from(&s.counts, &s.dues, n, m);
+        x = ticks::next_due_from(&s.counts, dues, n, m);
     }
 }

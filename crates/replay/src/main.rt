@@ -10,8 +10,7 @@ use libc::STDOUT_FILENO;
 fn end_of(file: &[u8]) -> u8
     ensures { λ r. ⌜ r ≡ cond (eqb (begunOf (now (file .entry)) .status) 0) 0 1 ⌝ }
 {
-    let begun = replay_steps::begin(file);
-    if begun.status == 0 {
+    if replay_steps::begin_status(file) == 0 {
         return command::DONE;
     }
     command::REFUSED

@@ -1,7 +1,7 @@
 // The pending replenishments of all threads: thread i's count, and its slots of dues and of amounts from i * ENTRIES on.
 ghost use mathlib.Core.Path.{_≡_};
 ghost use Prim.Native.Nat.{_<_};
-ghost use lib.ListN.{length, set};
+ghost use lib.ListN.{length, set, replicate};
 ghost use Rattle.records.specs.Ranges.{mostThreads};
 ghost use Rattle.account.specs.Account.{entries};
 ghost use Rattle.account.specs.Rules.{withoutFirst};
@@ -13,8 +13,25 @@ use records::THREADS;
 // How many slots the threads have together.
 pub const SLOTS: usize = THREADS * ENTRIES;
 
+// The dues or the amounts of all threads.
+pub type Slots = [u64; SLOTS];
+
+// How many numbers are lent: an array that is lent as a slice has a known length from then on.
+pub fn slots(xs: &[u64]) -> usize
+    ensures { λ r. ⌜ r ≡ length (now (xs .entry)) ⌝ }
+{
+    xs.len()
+}
+
+// All slots are 0, whatever they held.
+pub fn clear(xs: &mut Slots)
+    ensures { λ _. ⌜ now (xs .exit) ≡ replicate allSlots 0 ⌝ }
+{
+    *xs = [0u64; SLOTS];
+}
+
 // Thread i's slots.
-pub fn read_row(xs: &[u64; SLOTS], i: usize) -> [u64; ENTRIES]
+pub fn read_row(xs: &Slots, i: usize) -> [u64; ENTRIES]
     requires { ⌜ (i < mostThreads) × (length (now xs) ≡ allSlots) ⌝ }
     ensures { λ r. ⌜ r ≡ slotsAt i (now (xs .entry)) ⌝ }
 {
@@ -29,7 +46,7 @@ pub fn read_row(xs: &[u64; SLOTS], i: usize) -> [u64; ENTRIES]
 }
 
 // Other numbers in thread i's slots.
-pub fn write_row(xs: &mut [u64; SLOTS], i: usize, row: [u64; ENTRIES])
+pub fn write_row(xs: &mut Slots, i: usize, row: [u64; ENTRIES])
     requires { ⌜ (i < mostThreads) × (length (now xs) ≡ allSlots) ⌝ }
     ensures { λ _. ⌜ now (xs .exit) ≡ withSlots i row (now (xs .entry)) ⌝ }
 {
@@ -42,7 +59,7 @@ pub fn write_row(xs: &mut [u64; SLOTS], i: usize, row: [u64; ENTRIES])
 }
 
 // x in thread i's slot k.
-pub fn write_slot(xs: &mut [u64; SLOTS], i: usize, k: u8, x: u64)
+pub fn write_slot(xs: &mut Slots, i: usize, k: u8, x: u64)
     requires { ⌜ (i < mostThreads) × (k < entries) × (length (now xs) ≡ allSlots) ⌝ }
     ensures { λ _. ⌜ now (xs .exit) ≡ withSlots i (set (slotsAt i (now (xs .entry))) k x) (now (xs .entry)) ⌝ }
 {
@@ -51,7 +68,7 @@ pub fn write_slot(xs: &mut [u64; SLOTS], i: usize, k: u8, x: u64)
 }
 
 // Thread i's first number goes: each other one slot up, and the last slot is 0.
-pub fn remove_first(xs: &mut [u64; SLOTS], i: usize)
+pub fn remove_first(xs: &mut Slots, i: usize)
     requires { ⌜ (i < mostThreads) × (length (now xs) ≡ allSlots) ⌝ }
     ensures { λ _. ⌜ now (xs .exit) ≡ withSlots i (withoutFirst (slotsAt i (now (xs .entry)))) (now (xs .entry)) ⌝ }
 {
@@ -63,8 +80,8 @@ pub fn remove_first(xs: &mut [u64; SLOTS], i: usize)
 // Thread i's pending replenishments.
 pub fn pending_at<'a>(
     counts: &'a [u8; THREADS],
-    dues: &'a [u64; SLOTS],
-    amounts: &'a [u64; SLOTS],
+    dues: &'a Slots,
+    amounts: &'a Slots,
     i: usize,
 ) -> Pending
     requires { ⌜ (i < mostThreads) × (length (now dues) ≡ allSlots) × (length (now amounts) ≡ allSlots) ⌝ }
@@ -75,4 +92,15 @@ pub fn pending_at<'a>(
         dues: read_row(dues, i),
         amounts: read_row(amounts, i),
     }
+}
+
+// Other pending replenishments in thread i's slots.
+pub fn write_pending(dues: &mut Slots, amounts: &mut Slots, i: usize, q: Pending)
+    requires { ⌜ (i < mostThreads) × (length (now dues) ≡ allSlots) × (length (now amounts) ≡ allSlots) ⌝ }
+    ensures { λ _. ⌜ (now (dues .exit) ≡ withSlots i (q .dues) (now (dues .entry))) × (now (amounts .exit) ≡ withSlots i (q .amounts) (now (amounts .entry))) ⌝ }
+{
+    let row = q.dues;
+    write_row(dues, i, row);
+    let others = q.amounts;
+    write_row(amounts, i, others);
 }

@@ -9,6 +9,7 @@ use Rattle.rows.specs.Rows.{withSlots}
 use Rattle.thread.specs.declared.Thread.{Thread}
 use Rattle.thread.specs.Thread.{withServer}
 use Rattle.state.specs.declared.State.{State}
+use Rattle.state.specs.declared.Core.{Core}
 
 abbrev pub stateOf : Header → ℕ → ℕ → ℕ → List Thread → List ℕ → List ℕ → List ℕ → List ℕ → State
 stateOf header now idle word threads counts dues amounts lists =
@@ -23,6 +24,10 @@ stateOf header now idle word threads counts dues amounts lists =
       amounts = amounts;
       lists = lists;
     }
+
+-- a state of a core and its slots
+abbrev pub whole : Core → List ℕ → List ℕ → State
+whole c dues amounts = stateOf (c .header) (c .now) (c .idle) (c .word) (c .threads) (c .counts) dues amounts (c .lists)
 
 abbrev pub withHeader : Header → State → State
 withHeader h s = stateOf h (s .now) (s .idle) (s .word) (s .threads) (s .counts) (s .dues) (s .amounts) (s .lists)

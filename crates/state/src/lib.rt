@@ -4,12 +4,13 @@ ghost use lib.ListN.{length};
 ghost use Rattle.state.specs.Sound.{soundState};
 ghost use Rattle.records.specs.Ranges.{mostThreads};
 ghost use Rattle.rows.specs.Rows.{allSlots};
-ghost use Rattle.state.specs.Updates.{stateOf};
+ghost use Rattle.state.specs.Updates.{stateOf, whole};
 use ready::LIST_BYTES;
 use records::Header;
 use records::LAST_TIME;
 use records::THREADS;
 use rows::SLOTS;
+use rows::Slots;
 use thread::Thread;
 
 mod tests; // tests.rt: what soundness asks of one thread
@@ -18,7 +19,8 @@ mod tests; // tests.rt: what soundness asks of one thread
 const MOST: u32 = THREADS as u32;
 
 // The pending replenishments of thread i are counts[i] and its slots of dues and amounts (crate `rows`).
-// The lists of the priorities are the array of the crate `ready`.
+// The lists of the priorities are the array of the crate `ready`. Every definition speaks of this record; in code it is a
+// `Core` by value and the two arrays of slots, lent.
 #[repr(C)]
 pub struct State {
     pub header: Header,
@@ -32,6 +34,18 @@ pub struct State {
     pub lists: [u8; LIST_BYTES],
 }
 
+// A state without its slots.
+#[repr(C)]
+pub struct Core {
+    pub header: Header,
+    pub now: u64,
+    pub idle: u64,
+    pub word: u32,
+    pub threads: [Thread; THREADS],
+    pub counts: [u8; THREADS],
+    pub lists: [u8; LIST_BYTES],
+}
+
 // Whether a state of these parts is sound, for any contents: the times that the threads have run are taken from what is
 // left of the time, so that no sum wraps. Only the threads are copied: an array of structs can't be lent.
 pub fn sound_parts<'a>(
@@ -41,8 +55,8 @@ pub fn sound_parts<'a>(
     word: u32,
     threads: [Thread; THREADS],
     counts: &'a [u8; THREADS],
-    dues: &'a [u64; SLOTS],
-    amounts: &'a [u64; SLOTS],
+    dues: &'a Slots,
+    amounts: &'a Slots,
     lists: &'a [u8; LIST_BYTES],
 ) -> bool
     requires { ⌜ (length (now counts) ≡ mostThreads) × (length (now dues) ≡ allSlots) × (length (now amounts) ≡ allSlots) ⌝ }
@@ -84,20 +98,21 @@ pub fn sound_parts<'a>(
 }
 
 // Whether a state is sound, for any contents.
-pub fn sound(s: State) -> bool
-    ensures { λ r. ⌜ r ≡ soundState s ⌝ }
+pub fn sound<'a>(c: Core, dues: &'a Slots, amounts: &'a Slots) -> bool
+    requires { ⌜ (length (now dues) ≡ allSlots) × (length (now amounts) ≡ allSlots) ⌝ }
+    ensures { λ r. ⌜ r ≡ soundState (whole c (now (dues .entry)) (now (amounts .entry))) ⌝ }
 {
-    let header = s.header;
-    let threads = s.threads;
+    let header = c.header;
+    let threads = c.threads;
     sound_parts(
         header,
-        s.now,
-        s.idle,
-        s.word,
+        c.now,
+        c.idle,
+        c.word,
         threads,
-        &s.counts,
-        &s.dues,
-        &s.amounts,
-        &s.lists,
+        &c.counts,
+        dues,
+        amounts,
+        &c.lists,
     )
 }

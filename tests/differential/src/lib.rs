@@ -53,18 +53,27 @@ pub struct Thread {
 /// The bytes of one list: its length, then its places.
 pub const ROW: usize = THREADS + 1;
 
+/// The slots of all threads: their dues, or their amounts.
+pub type Slots = [u64; THREADS * PENDING];
+
+/// A state without its slots.
 #[repr(C)]
 #[derive(Clone, Copy, Debug, PartialEq, Eq)]
-pub struct State {
+pub struct Core {
     pub header: Header,
     pub now: u64,
     pub idle: u64,
     pub word: u32,
     pub threads: [Thread; THREADS],
     pub counts: [u8; THREADS],
-    pub dues: [u64; THREADS * PENDING],
-    pub amounts: [u64; THREADS * PENDING],
     pub lists: [u8; PRIORITIES * ROW],
+}
+
+#[derive(Clone, Copy, Debug, PartialEq, Eq)]
+pub struct State {
+    pub core: Core,
+    pub dues: Slots,
+    pub amounts: Slots,
 }
 
 #[repr(C)]
@@ -75,13 +84,39 @@ pub struct Reply {
     pub next: u64,
 }
 
+/// An answer without the slots of its state, which are lent.
 #[repr(C)]
+#[derive(Clone, Copy)]
+struct Answered {
+    status: u8,
+    running: u8,
+    next: u64,
+    core: Core,
+}
+
 #[derive(Clone, Copy, Debug)]
 pub struct Answer {
     pub status: u8,
     pub running: u8,
     pub next: u64,
     pub state: State,
+}
+
+/// The answer of a function that is lent slots; what these hold before must not matter.
+fn answered(call: impl FnOnce(&mut Slots, &mut Slots) -> Answered) -> Answer {
+    let mut dues = [7; THREADS * PENDING];
+    let mut amounts = [9; THREADS * PENDING];
+    let a = call(&mut dues, &mut amounts);
+    Answer {
+        status: a.status,
+        running: a.running,
+        next: a.next,
+        state: State {
+            core: a.core,
+            dues,
+            amounts,
+        },
+    }
 }
 
 impl Answer {
@@ -155,9 +190,19 @@ mod exported {
     use super::*;
     // A slice is a pointer and then a length.
     extern "C" {
-        pub fn thawonlai_event(state: *mut State, e: Event) -> Reply;
-        pub fn thawonlai_open(header: Header, table: Table) -> Answer;
-        pub fn thawonlai_sound(s: State) -> u8;
+        pub fn thawonlai_event(
+            core: *mut Core,
+            dues: *mut u64,
+            amounts: *mut u64,
+            e: Event,
+        ) -> Reply;
+        pub fn thawonlai_open(
+            header: Header,
+            table: Table,
+            dues: *mut u64,
+            amounts: *mut u64,
+        ) -> Answered;
+        pub fn thawonlai_sound(core: Core, dues: *const u64, amounts: *const u64) -> u8;
         pub fn thawonlai_read(file: *const u8, length: usize) -> Found;
         pub fn thawonlai_copy(file: *const u8, length: usize, out: *mut u8, room: usize)
             -> Written;
@@ -183,7 +228,13 @@ mod exported {
             theirs: *const u8,
             their_length: usize,
         ) -> Checked;
-        pub fn thawonlai_replay(file: *const u8, length: usize, count: usize) -> Answer;
+        pub fn thawonlai_replay(
+            file: *const u8,
+            length: usize,
+            count: usize,
+            dues: *mut u64,
+            amounts: *mut u64,
+        ) -> Answered;
         pub fn thawonlai_listing(
             file: *const u8,
             length: usize,
@@ -196,15 +247,23 @@ mod exported {
 // None of the functions has a `requires`: any values may be handed in.
 
 pub fn event(state: &mut State, e: Event) -> Reply {
-    unsafe { exported::thawonlai_event(state, e) }
+    let State {
+        core,
+        dues,
+        amounts,
+    } = state;
+    unsafe { exported::thawonlai_event(core, dues.as_mut_ptr(), amounts.as_mut_ptr(), e) }
 }
 
 pub fn open(start: u64, n: u32, table: Table) -> Answer {
-    unsafe { exported::thawonlai_open(Header { n, start }, table) }
+    let header = Header { n, start };
+    answered(|dues, amounts| unsafe {
+        exported::thawonlai_open(header, table, dues.as_mut_ptr(), amounts.as_mut_ptr())
+    })
 }
 
 pub fn sound(s: &State) -> u8 {
-    unsafe { exported::thawonlai_sound(*s) }
+    unsafe { exported::thawonlai_sound(s.core, s.dues.as_ptr(), s.amounts.as_ptr()) }
 }
 
 pub fn read(file: &[u8]) -> Found {
@@ -240,7 +299,15 @@ pub fn check(file: &[u8], theirs: &[u8]) -> Checked {
 
 /// The answer to the last of the file's first `count` events, with the state after it.
 pub fn replay(file: &[u8], count: usize) -> Answer {
-    unsafe { exported::thawonlai_replay(file.as_ptr(), file.len(), count) }
+    answered(|dues, amounts| unsafe {
+        exported::thawonlai_replay(
+            file.as_ptr(),
+            file.len(),
+            count,
+            dues.as_mut_ptr(),
+            amounts.as_mut_ptr(),
+        )
+    })
 }
 
 pub fn listing(file: &[u8], out: &mut [u8]) -> Listed {
@@ -329,33 +396,33 @@ pub fn events_of(events: &[model::Event]) -> Events {
 impl Default for State {
     fn default() -> State {
         State {
-            header: Header::default(),
-            now: 0,
-            idle: 0,
-            word: 0,
-            threads: [Thread::default(); THREADS],
-            counts: [0; THREADS],
+            core: Core {
+                header: Header::default(),
+                now: 0,
+                idle: 0,
+                word: 0,
+                threads: [Thread::default(); THREADS],
+                counts: [0; THREADS],
+                lists: [0; PRIORITIES * ROW],
+            },
             dues: [0; THREADS * PENDING],
             amounts: [0; THREADS * PENDING],
-            lists: [0; PRIORITIES * ROW],
         }
     }
 }
 
 impl From<&model::State> for State {
     fn from(s: &model::State) -> State {
-        let mut r = State {
-            header: Header {
-                n: s.n,
-                start: s.start,
-            },
-            now: s.now,
-            idle: s.idle,
-            word: s.word,
-            ..State::default()
+        let mut r = State::default();
+        r.core.header = Header {
+            n: s.n,
+            start: s.start,
         };
+        r.core.now = s.now;
+        r.core.idle = s.idle;
+        r.core.word = s.word;
         for (i, t) in s.threads.iter().enumerate() {
-            r.threads[i] = Thread {
+            r.core.threads[i] = Thread {
                 parameters: t.parameters.into(),
                 blocked: t.blocked,
                 total: t.total,
@@ -366,13 +433,13 @@ impl From<&model::State> for State {
                     activation: t.activation,
                 },
             };
-            r.counts[i] = t.pending;
+            r.core.counts[i] = t.pending;
             r.dues[i * PENDING..][..PENDING].copy_from_slice(&t.dues);
             r.amounts[i * PENDING..][..PENDING].copy_from_slice(&t.amounts);
         }
         for (k, list) in s.lists.iter().enumerate() {
-            r.lists[k * ROW] = list.length;
-            r.lists[k * ROW + 1..][..THREADS].copy_from_slice(&list.members);
+            r.core.lists[k * ROW] = list.length;
+            r.core.lists[k * ROW + 1..][..THREADS].copy_from_slice(&list.members);
         }
         r
     }
@@ -381,18 +448,18 @@ impl From<&model::State> for State {
 impl From<&State> for model::State {
     fn from(s: &State) -> model::State {
         let mut r = model::State {
-            n: s.header.n,
-            start: s.header.start,
-            now: s.now,
-            idle: s.idle,
-            word: s.word,
+            n: s.core.header.n,
+            start: s.core.header.start,
+            now: s.core.now,
+            idle: s.core.idle,
+            word: s.core.word,
             ..model::State::default()
         };
-        for (i, t) in s.threads.iter().enumerate() {
+        for (i, t) in s.core.threads.iter().enumerate() {
             let to = &mut r.threads[i];
             to.parameters = t.parameters.into();
             to.blocked = t.blocked;
-            to.pending = s.counts[i];
+            to.pending = s.core.counts[i];
             to.total = t.total;
             to.quantum = t.left;
             to.capacity = t.server.capacity;
@@ -403,9 +470,9 @@ impl From<&State> for model::State {
                 .copy_from_slice(&s.amounts[i * PENDING..][..PENDING]);
         }
         for (k, list) in r.lists.iter_mut().enumerate() {
-            list.length = s.lists[k * ROW];
+            list.length = s.core.lists[k * ROW];
             list.members
-                .copy_from_slice(&s.lists[k * ROW + 1..][..THREADS]);
+                .copy_from_slice(&s.core.lists[k * ROW + 1..][..THREADS]);
         }
         r
     }

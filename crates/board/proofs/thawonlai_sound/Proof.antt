@@ -5,6 +5,12 @@ use Rattle.board.proofs.BoardLaws.{number-true, number-false}
 use Rattle.board.proofs.thawonlai_sound.Statement.{statement}
 use Rattle.board.proofs.thawonlai_sound.Tie as tie
 
+slots-requires : tie.Need-slots-requires
+slots-requires c κs = search needs
+
+slots-requires-2 : tie.Need-slots-requires-2
+slots-requires-2 c κs = search needs
+
 sound-requires : tie.Need-sound-requires
 sound-requires c κs = search needs
 
@@ -15,4 +21,4 @@ returns-2 : tie.Need-returns-2
 returns-2 c = let e = sym (c .before .sound .ensures) ∙ c .if1 .left in number-false _ e
 
 pub thawonlai-sound-spec : {M : Type 1} → statement M
-thawonlai-sound-spec = tie.close (tie.spec sound-requires returns returns-2)
+thawonlai-sound-spec = tie.close (tie.spec slots-requires slots-requires-2 sound-requires returns returns-2)

@@ -12,14 +12,18 @@ use Rattle.records.specs.declared.Event.{Event}
 use Rattle.passing.specs.Time.{dueBy}
 use Rattle.state.specs.declared.State.{State}
 use Rattle.state.specs.State.{threadAt}
-use Rattle.state.proofs.SoundLaws.{state-out}
+use Rattle.state.specs.Sound.{soundState}
+use Rattle.state.specs.Updates.{stateOf, whole}
+use Rattle.state.proofs.SoundLaws.{Sound, state-out}
 use Rattle.ticks.specs.Running.{limitOf, next}
 use Rattle.moments.specs.Moments.{passed}
 use Rattle.moments.proofs.TurnLaws.{start, firstOf}
 use Rattle.moments.proofs.SeenLaws.{seen-held}
 use Rattle.moments.proofs.AdvanceLaws.{Turn, is-next, rest-fits, rest-idle, last}
 use Rattle.moments.proofs.AnswerLaws.{head-below, running-held, next-requires}
-use Rattle.state.specs.Updates.{stateOf}
+use Rattle.events.specs.Events.{happened}
+use Rattle.executive.specs.declared.Answer.{Answer}
+use Rattle.executive.specs.Answer.{answerOf}
 use Rattle.executive.proofs.AnswerLaws.{answered-is}
 use Rattle.executive.proofs.RequiresLaws.{dues-length, amounts-length}
 use Rattle.executive.proofs.StepLaws.{Open, Stage, unsound-is, arrives, at-time, still-due, turn-falls, turn-ends, starts, carries, finishes}
@@ -29,16 +33,127 @@ use Rattle.executive.proofs.answer_event.Statement.{statement}
 use Rattle.executive.proofs.answer_event.Tie as tie
 
 abbrev Inv-loop : tie.InvT-loop
-Inv-loop e known s₀ x status done₀ s done = Stage s₀ e status s done
+Inv-loop dues₀ amounts₀ e known s₀ x status done₀ dues amounts s done = Stage (whole s₀ dues₀ amounts₀) e status (whole s dues amounts) done
 
 abbrev μ-loop : tie.MeasureT-loop
-μ-loop e known s₀ x status done₀ s done = cond done 0 (suc (e .time - s .now))
+μ-loop dues₀ amounts₀ e known s₀ x status done₀ dues amounts s done = cond done 0 (suc (e .time - s .now))
 
-known-sound-requires : tie.Need-known-sound-requires Inv-loop μ-loop
-known-sound-requires c κs = (c .before .before .before .before .before .before .before .pre, search needs, search needs, search needs)
+-- ---- the stages, each with the way to an earlier one
+
+-- what is given
+abbrev Given : Type 0
+Given = tie.Start Inv-loop μ-loop
+
+-- soundness is tested
+abbrev Tested : Type 0
+Tested = tie.After-tested Inv-loop μ-loop
+
+-- the event is judged
+abbrev Judged : Type 0
+Judged = tie.After-status-of Inv-loop μ-loop
+
+-- a turn begins
+abbrev Here : Type 0
+Here = tie.At-loop Inv-loop μ-loop
+
+-- the head of the highest list is read
+abbrev Topped : Type 0
+Topped = tie.After-wide Inv-loop μ-loop
+
+-- the next moment is known
+abbrev Read : Type 0
+Read = tie.After-next-moment Inv-loop μ-loop
+
+-- the event is still to come
+abbrev Still : Type 0
+Still = tie.Else2 Inv-loop μ-loop
+
+-- no moment is due by its time
+abbrev Rest : Type 0
+Rest = tie.Else3 Inv-loop μ-loop
+
+-- the ticks up to its time are charged
+abbrev Charged : Type 0
+Charged = tie.After-charged-idle Inv-loop μ-loop
+
+-- the thread that it concerns is known
+abbrev Named : Type 0
+Named = tie.After-wide2 Inv-loop μ-loop
+
+-- and so are its entries
+abbrev Found : Type 0
+Found = tie.After-pending-at Inv-loop μ-loop
+
+-- the change is in place but for the lists
+abbrev Put : Type 0
+Put = tie.After-served Inv-loop μ-loop
+
+abbrev given : Tested → Given
+given c = c .before .before .before .before .before .before .before .before .before .before .before .before .before .before
+
+abbrev checked : Judged → Tested
+checked c = c .before .before .before .before .before
+
+abbrev entry : Here → Given
+entry c = given (checked (c .before))
+
+abbrev begun : Topped → Here
+begun c = c .before .before .before .before .before
+
+abbrev topped : Read → Topped
+topped c = c .before .before .before .before .before
+
+abbrev here : Still → Here
+here c = begun (topped (c .before))
+
+abbrev still : Rest → Still
+still c = c .before .before
+
+abbrev rest : Charged → Rest
+rest c = c .before .before .before
+
+abbrev charged : Named → Charged
+charged c = c .before .before .before .before
+
+abbrev named : Found → Named
+named c = c .before .before .before .before .before .before
+
+abbrev found : Put → Found
+found c = c .before .before .before .before .before
+
+-- ---- the states at the stages
+
+abbrev stateGiven : Given → State
+stateGiven c = whole (c .args .t1) (c .args .dues .now) (c .args .amounts .now)
+
+abbrev stateHere : Here → State
+stateHere c = whole (c .loop .s) (c .loop .dues) (c .loop .amounts)
+
+abbrev eventOf : Here → Event
+eventOf c = entry c .args .e
+
+sound : (c : Here) → Sound (stateHere c)
+sound c = state-out (stateHere c) (c .loop .inv .sound)
+
+-- ---- before the first turn
+
+slots-requires : tie.Need-slots-requires Inv-loop μ-loop
+slots-requires c κs = tt
+
+slots-requires-2 : tie.Need-slots-requires-2 Inv-loop μ-loop
+slots-requires-2 c κs = tt
+
+tested-requires : tie.Need-tested-requires Inv-loop μ-loop
+tested-requires c κs = (c .before .before .before .before .before .before .before .before .before .before .before .before .before .pre, search needs, search needs, search needs)
+
+nothing-runs-requires : tie.Need-nothing-runs-requires Inv-loop μ-loop
+nothing-runs-requires c κs = tt
 
 returns : tie.Need-returns Inv-loop μ-loop
-returns c = unsound-is (c .before .before .before .before .before .before .before .before .before .args .t1) (c .before .before .before .before .before .before .before .before .before .args .e) (sym (c .before .known-sound .ensures) ∙ not-true _ (c .if1 .taken))
+returns c =
+    let k = c .before .before in
+    ap (λ (r : Answer). answerOf r (given k .args .dues .now) (given k .args .amounts .now)) (c .nothing-runs .ensures)
+    ∙ unsound-is (stateGiven (given k)) (given k .args .e) (sym (k .tested .ensures) ∙ not-true _ (c .before .if1 .taken))
 
 index-requires : tie.Need-index-requires Inv-loop μ-loop
 index-requires c κs = tt
@@ -54,24 +169,27 @@ status-of-requires c κs = tt
 
 loop-holds : tie.Need-loop-holds Inv-loop μ-loop
 loop-holds c =
-    let b = c .before .before .before .before .before .before .before .before .before .before .before .before .before in
-    starts (b .args .t1) (b .args .e) (sym (c .before .before .before .before .before .known-sound .ensures) ∙ not-false _ (c .before .before .before .before .if1 .left)) (c .before .before .before .index .result) (c .before .before .before .index .ensures .1) (c .status-of .result) (c .status-of .ensures)
+    let k = checked c in
+    let x = c .before .before .before in
+    starts (stateGiven (given k)) (given k .args .e) (sym (k .tested .ensures) ∙ not-false _ (x .before .if1 .left)) (x .index .result) (x .index .ensures .1) (c .status-of .result) (c .status-of .ensures)
+
+-- ---- a turn
 
 cast-n : tie.Need-cast-n Inv-loop μ-loop
-cast-n c = omega (tests, state-out (c .loop .s) (c .loop .inv .sound) .sizes)
+cast-n c = omega (tests, sound c .sizes)
 
 highest-requires : tie.Need-highest-requires Inv-loop μ-loop
 highest-requires c κs = tt
 
 head-at-requires : tie.Need-head-at-requires Inv-loop μ-loop
-head-at-requires c κs = let l = c .before .before .before .loop in seen-held (λ i. l .s .now) (l .s) (state-out (l .s) (l .inv .sound)) _ (c .before .before .highest .ensures)
+head-at-requires c κs = let l = c .before .before .before in seen-held (λ i. stateHere l .now) (stateHere l) (sound l) _ (c .before .before .highest .ensures)
 
 wide-requires : tie.Need-wide-requires Inv-loop μ-loop
 wide-requires c κs = tt
 
 -- the head is a thread number
-head-small : (c : tie.After-wide Inv-loop μ-loop) → c .wide .result < 32
-head-small c = let l = c .before .before .before .before .before .loop in head-below (l .s) (state-out (l .s) (l .inv .sound)) _ _ _ (c .before .before .before .before .highest .ensures) (c .before .head-at .ensures) (c .wide .ensures)
+head-small : (c : Topped) → c .wide .result < 32
+head-small c = head-below (stateHere (begun c)) (sound (begun c)) _ _ _ (c .before .before .before .before .highest .ensures) (c .before .head-at .ensures) (c .wide .ensures)
 
 mul-runner : tie.Need-mul-runner Inv-loop μ-loop
 mul-runner c = omega (arith, head-small c)
@@ -80,119 +198,127 @@ element-copy-out-runner : tie.Need-element-copy-out-runner Inv-loop μ-loop
 element-copy-out-runner c = head-small c
 
 next-moment-requires : tie.Need-next-moment-requires Inv-loop μ-loop
-next-moment-requires c κs = let l = c .before .before .before .before .before .before .before .before .before .loop in next-requires (l .s) (state-out (l .s) (l .inv .sound)) _ _ _ (c .before .before .before .before .before .before .before .before .highest .ensures) (c .before .before .before .before .before .head-at .ensures) (c .before .before .before .before .wide .ensures)
+next-moment-requires c κs =
+    let w = c .before .before .before .before in
+    next-requires (stateHere (begun w)) (sound (begun w)) _ _ _ (w .before .before .before .before .highest .ensures) (w .before .head-at .ensures) (w .wide .ensures)
 
 running-requires : tie.Need-running-requires Inv-loop μ-loop
-running-requires c κs = let l = c .before .before .before .before .before .before .before .before .before .before .before .before .before .loop in running-held (l .s) (state-out (l .s) (l .inv .sound))
+running-requires c κs = let l = begun (topped (c .before .before .before)) in running-held (stateHere l) (sound l)
+
+answer-of-requires : tie.Need-answer-of-requires Inv-loop μ-loop
+answer-of-requires c κs = tt
 
 returns-2 : tie.Need-returns-2 Inv-loop μ-loop
 returns-2 c =
-    let l = c .before .before .before .before .before .before .before .before .before .before .before .before .before .before .loop in
-    answered-is _ (l .s) (l .inv .sound) _ _ _ (c .before .before .before .before .before .before .before .before .before .before .before .before .before .highest .ensures) (c .before .before .before .before .before .before .before .before .before .before .head-at .ensures) (c .before .before .before .before .before .before .before .before .before .wide .ensures) _ _ (c .running .ensures) (c .before .before .before .before .next-moment .ensures) ∙ l .inv .ended (c .before .before .before .if2 .taken)
+    let m = c .before .before .before .before .before in
+    let w = topped m in
+    let l = begun w in
+    ap (λ (r : Answer). answerOf r (l .loop .dues) (l .loop .amounts)) (c .answer-of .ensures)
+    ∙ answered-is _ (stateHere l) (l .loop .inv .sound) _ _ _ (w .before .before .before .before .highest .ensures) (w .before .head-at .ensures) (w .wide .ensures) _ _ (c .before .running .ensures) (m .next-moment .ensures)
+    ∙ l .loop .inv .ended (c .before .before .before .before .if2 .taken)
 
 due-by-requires : tie.Need-due-by-requires Inv-loop μ-loop
 due-by-requires c κs = tt
 
 -- ---- the event is still to come
 
-abbrev Still : Type 0
-Still = tie.Else2 Inv-loop μ-loop
+to-come : (c : Still) → Open (stateGiven (entry (here c))) (eventOf (here c)) (stateHere (here c))
+to-come c = here c .loop .inv .going (c .if2 .left) .1
 
-abbrev stateHere : Still → State
-stateHere c = c .before .before .before .before .before .before .before .before .before .before .before .loop .s
-
-abbrev eventOf : Still → Event
-eventOf c = c .before .before .before .before .before .before .before .before .before .before .before .before .before .before .before .before .before .before .before .before .before .before .before .before .before .args .e
-
-to-come : (c : Still) → Open (c .before .before .before .before .before .before .before .before .before .before .before .before .before .before .before .before .before .before .before .before .before .before .before .before .before .args .t1) (eventOf c) (stateHere c)
-to-come c = c .before .before .before .before .before .before .before .before .before .before .before .loop .inv .going (c .if2 .left) .1
+accepted : (c : Still) → here c .before .status-of .result ≡ 0
+accepted c = here c .loop .inv .going (c .if2 .left) .0
 
 -- what is known once the next moment is
 abbrev turn : (c : Still) → Turn
 turn c =
+    let w = topped (c .before) in
+    let s = stateHere (here c) in
     record {
-      origin = stateHere c;
-      to = eventOf c .time;
+      origin = s;
+      to = eventOf (here c) .time;
       bounded = to-come c .top;
-      state = stateHere c;
-      going = start (stateHere c) (eventOf c .time) (state-out (stateHere c) (to-come c .sound)) (to-come c .by);
-      first = firstOf (stateHere c);
-      list = c .before .before .before .before .before .before .before .before .before .before .highest .result;
-      head = c .before .before .before .before .before .before .before .head-at .result;
-      at = c .before .before .before .before .before .before .wide .result;
-      limit = cond (eqb (c .before .before .before .before .before .before .before .before .before .before .highest .result) 0) 0 (limitOf (stateHere c .now) (c .before .before .before .before .before .before .before .before .before .before .highest .result) (threadAt (stateHere c) (c .before .before .before .before .before .before .wide .result)));
+      state = s;
+      going = start s (eventOf (here c) .time) (state-out s (to-come c .sound)) (to-come c .by);
+      first = firstOf s;
+      list = w .before .before .before .before .highest .result;
+      head = w .before .head-at .result;
+      at = w .wide .result;
+      limit = cond (eqb (w .before .before .before .before .highest .result) 0) 0 (limitOf (s .now) (w .before .before .before .before .highest .result) (threadAt s (w .wide .result)));
       moment = c .before .next-moment .result;
       seen = record {
         first = refl;
-        list = c .before .before .before .before .before .before .before .before .before .before .highest .ensures;
-        top = c .before .before .before .before .before .before .before .head-at .ensures;
-        at = c .before .before .before .before .before .before .wide .ensures;
+        list = w .before .before .before .before .highest .ensures;
+        top = w .before .head-at .ensures;
+        at = w .wide .ensures;
         limit = refl;
         moment = c .before .next-moment .ensures;
       };
     }
 
 advance-requires : tie.Need-advance-requires Inv-loop μ-loop
-advance-requires c κs = let o = to-come (c .before .before) in (o .sound, o .by, o .top)
+advance-requires c κs = let o = to-come (c .before .before .before .before) in (o .sound, o .by, o .top)
 
-is-due : (c : tie.Then3 Inv-loop μ-loop) → dueBy (next (stateHere (c .before .before))) (eventOf (c .before .before) .time) ≡ true
-is-due c = ap (λ (m : ℕ). dueBy m (eventOf (c .before .before) .time)) (sym (is-next (turn (c .before .before)))) ∙ sym (c .before .due-by .ensures) ∙ c .if3 .taken
+is-due : (c : tie.Then3 Inv-loop μ-loop) → dueBy (next (stateHere (here (c .before .before)))) (eventOf (here (c .before .before)) .time) ≡ true
+is-due c = ap (λ (m : ℕ). dueBy m (eventOf (here (c .before .before)) .time)) (sym (is-next (turn (c .before .before)))) ∙ sym (c .before .due-by .ensures) ∙ c .if3 .taken
 
 loop-less : tie.Need-loop-less Inv-loop μ-loop
 loop-less c =
-    let b = c .before .before .before in
-    let o = to-come b in
-    turn-falls _ (eventOf b .time) _ _ (b .if2 .left) (still-due _ (eventOf b) (stateHere b) o (is-due (c .before))) (at-time _ (eventOf b) (stateHere b) o (c .advance .result) (c .advance .ensures))
+    let d = c .before .before .before in
+    let b = d .before .before in
+    let e = eventOf (here b) in
+    let s = stateHere (here b) in
+    turn-falls _ (e .time) _ _ (b .if2 .left) (still-due _ e s (to-come b) (is-due d)) (at-time _ e s (to-come b) _ (c .advance .ensures))
 
 loop-again : tie.Need-loop-again Inv-loop μ-loop
 loop-again c =
-    let b = c .before .before .before in
-    carries _ (eventOf b) _ (stateHere b) (c .before .before .before .before .before .before .before .before .before .before .before .before .before .before .loop .inv .going (b .if2 .left) .0) (to-come b) (c .advance .result) (c .advance .ensures) _ (b .if2 .left)
+    let b = c .before .before .before .before .before in
+    carries _ (eventOf (here b)) _ (stateHere (here b)) (accepted b) (to-come b) _ (c .advance .ensures) _ (b .if2 .left)
 
 -- ---- no moment is due by the event's time
 
-not-due : (c : tie.Else3 Inv-loop μ-loop) → dueBy (turn (c .before .before) .moment) (turn (c .before .before) .to) ≡ false
+not-due : (c : Rest) → dueBy (turn (still c) .moment) (turn (still c) .to) ≡ false
 not-due c = sym (c .before .due-by .ensures) ∙ c .if3 .left
 
 sub-k : tie.Need-sub-k Inv-loop μ-loop
-sub-k c = to-come (c .before .before .before) .by
+sub-k c = to-come (still (c .before)) .by
 
 charged-thread-requires : tie.Need-charged-thread-requires Inv-loop μ-loop
-charged-thread-requires c κs = rest-fits (turn (c .before .before .before)) (not-due (c .before))
+charged-thread-requires c κs = rest-fits (turn (still (c .before))) (not-due (c .before))
 
 mul-charged : tie.Need-mul-charged Inv-loop μ-loop
-mul-charged c = omega (arith, head-small (c .before .before .before .before .before .before .before .before .before .before))
+mul-charged c = omega (arith, head-small (topped (still (c .before .before) .before)))
 
 element-set-from-charged : tie.Need-element-set-from-charged Inv-loop μ-loop
-element-set-from-charged c = head-small (c .before .before .before .before .before .before .before .before .before .before)
+element-set-from-charged c = head-small (topped (still (c .before .before) .before))
 
 charged-idle-requires : tie.Need-charged-idle-requires Inv-loop μ-loop
-charged-idle-requires c κs = rest-idle (turn (c .before .before .before .before))
+charged-idle-requires c κs = rest-idle (turn (still (c .before .before)))
 
 -- the state at the event's time
-abbrev Charged : Type 0
-Charged = tie.After-charged-idle Inv-loop μ-loop
-
-abbrev still : Charged → Still
-still c = c .before .before .before .before .before
-
 abbrev atTime : Charged → State
 atTime c =
-    stateOf (stateHere (still c) .header) (eventOf (still c) .time) (c .charged-idle .result) (stateHere (still c) .word) (set (stateHere (still c) .threads) (c .before .before .before .before .before .before .before .before .before .before .before .wide .result) (c .before .charged-thread .result)) (stateHere (still c) .counts) (stateHere (still c) .dues) (stateHere (still c) .amounts) (stateHere (still c) .lists)
+    let b = still (rest c) in
+    let s = stateHere (here b) in
+    stateOf (s .header) (eventOf (here b) .time) (c .charged-idle .result) (s .word) (set (s .threads) (topped (b .before) .wide .result) (c .before .charged-thread .result)) (s .counts) (s .dues) (s .amounts) (s .lists)
 
-has-passed : (c : Charged) → atTime c ≡ passed (stateHere (still c)) (eventOf (still c) .time)
-has-passed c = last (turn (still c)) (not-due (c .before .before .before)) (c .charged-idle .result) (c .before .charged-thread .result) (c .charged-idle .ensures) (c .before .charged-thread .ensures)
+abbrev eventAt : Charged → Event
+eventAt c = eventOf (here (still (rest c)))
 
-accepted : (c : Charged) → c .before .before .before .before .before .before .before .before .before .before .before .before .before .before .before .before .before .status-of .result ≡ 0
-accepted c = c .before .before .before .before .before .before .before .before .before .before .before .before .before .before .before .before .loop .inv .going (still c .if2 .left) .0
+has-passed : (c : Charged) → atTime c ≡ passed (stateHere (here (still (rest c)))) (eventAt c .time)
+has-passed c = last (turn (still (rest c))) (not-due (rest c)) (c .charged-idle .result) (c .before .charged-thread .result) (c .charged-idle .ensures) (c .before .charged-thread .ensures)
+
+-- and what the event leaves
+finished : (c : Charged) (r : State) → r ≡ happened (atTime c) (eventAt c)
+    → Stage (stateGiven (entry (here (still (rest c))))) (eventAt c) (here (still (rest c)) .before .status-of .result) r true
+finished c r g = let b = still (rest c) in finishes _ (eventAt c) _ (stateHere (here b)) (accepted b) (to-come b) (atTime c) (has-passed c) r g
 
 loop-less-2 : tie.Need-loop-less-2 Inv-loop μ-loop
-loop-less-2 c = turn-ends _ _ (c .before .before .before .before .before .before .before .if2 .left)
+loop-less-2 c = turn-ends _ _ (still (rest (c .before .before)) .if2 .left)
 
 loop-again-2 : tie.Need-loop-again-2 Inv-loop μ-loop
-loop-again-2 c =
-    let b = c .before .before in
-    finishes _ (eventOf (still b)) _ (stateHere (still b)) (accepted b) (to-come (still b)) (atTime b) (has-passed b) (atTime b) (happened-none (atTime b) (eventOf (still b)) (c .if4 .taken))
+loop-again-2 c = let b = c .before .before in finished b (atTime b) (happened-none (atTime b) (eventAt b) (c .if4 .taken))
+
+-- ---- the thread that the event concerns
 
 concerned-requires : tie.Need-concerned-requires Inv-loop μ-loop
 concerned-requires c κs = tt
@@ -200,30 +326,25 @@ concerned-requires c κs = tt
 wide-requires-2 : tie.Need-wide-requires-2 Inv-loop μ-loop
 wide-requires-2 c κs = tt
 
--- the thread that the event concerns
-abbrev Named : Type 0
-Named = tie.After-wide2 Inv-loop μ-loop
-
-abbrev then : Named → Charged
-then c = c .before .before .before .before
-
-concerns : (c : Named) → Concerns (atTime (then c)) (eventOf (still (then c))) (c .before .concerned .result) (c .wide2 .result)
+concerns : (c : Named) → Concerns (atTime (charged c)) (eventAt (charged c)) (c .before .concerned .result) (c .wide2 .result)
 concerns c =
-    let b = then c in
-    let e = eventOf (still b) in
-    let o = arrives _ e (stateHere (still b)) (to-come (still b)) (atTime b) (has-passed b) in
+    let k = charged c in
+    let b = still (rest k) in
+    let w = topped (b .before) in
+    let e = eventAt k in
+    let o = arrives _ e (stateHere (here b)) (to-come b) (atTime k) (has-passed k) in
     let l : 0 < e .kind = omega (arith, c .before .before .if4 .left) in
     record {
       sound = o .sound;
       fields = o .fields;
       allows = o .allows;
       some = l;
-      who = who-is (atTime b) e (o .sound) (o .fields) (o .allows) l _ _ (c .before .before .before .before .before .before .before .before .before .before .before .before .before .before .before .before .before .before .before .highest .ensures) (c .before .before .before .before .before .before .before .before .before .before .before .before .before .before .before .before .head-at .ensures) _ (c .before .concerned .ensures);
+      who = who-is (atTime k) e (o .sound) (o .fields) (o .allows) l _ _ (w .before .before .before .before .highest .ensures) (w .before .head-at .ensures) _ (c .before .concerned .ensures);
       there = c .wide2 .ensures;
     }
 
 small : (c : Named) → c .wide2 .result < 32
-small c = change-small (atTime (then c)) (eventOf (still (then c))) _ _ (concerns c)
+small c = change-small (atTime (charged c)) (eventAt (charged c)) _ _ (concerns c)
 
 mul-t : tie.Need-mul-t Inv-loop μ-loop
 mul-t c = omega (arith, small c)
@@ -232,42 +353,48 @@ element-copy-out-t : tie.Need-element-copy-out-t Inv-loop μ-loop
 element-copy-out-t c = small c
 
 pending-at-requires : tie.Need-pending-at-requires Inv-loop μ-loop
-pending-at-requires c κs = let k = c .before .before .before .before .before in let a = concerns k .sound in (small k, dues-length (atTime (then k)) a, amounts-length (atTime (then k)) a)
+pending-at-requires c κs =
+    let k = c .before .before .before .before .before in
+    let a = concerns k .sound in (small k, dues-length (atTime (charged k)) a, amounts-length (atTime (charged k)) a)
 
 change-of-requires : tie.Need-change-of-requires Inv-loop μ-loop
-change-of-requires c κs = let k = c .before .before .before .before .before .before .before in (concerns k .some, change-requires (atTime (then k)) (eventOf (still (then k))) _ _ (concerns k) _ (c .before .pending-at .ensures))
+change-of-requires c κs = let k = named c in (concerns k .some, change-requires (atTime (charged k)) (eventAt (charged k)) _ _ (concerns k) _ (c .pending-at .ensures))
 
-with-server-requires : tie.Need-with-server-requires Inv-loop μ-loop
-with-server-requires c κs = tt
+-- ---- its change
+
+served-requires : tie.Need-served-requires Inv-loop μ-loop
+served-requires c κs = tt
 
 mul-changed : tie.Need-mul-changed Inv-loop μ-loop
-mul-changed c = omega (arith, small (c .before .before .before .before .before .before .before .before .before .before .before .before .before .before .before))
+mul-changed c = omega (arith, small (named (found c)))
 
 element-set-from-changed : tie.Need-element-set-from-changed Inv-loop μ-loop
-element-set-from-changed c = small (c .before .before .before .before .before .before .before .before .before .before .before .before .before .before .before)
+element-set-from-changed c = small (named (found c))
 
 element-write-s : tie.Need-element-write-s Inv-loop μ-loop
-element-write-s c = small (c .before .before .before .before .before .before .before .before .before .before .before .before .before .before .before)
+element-write-s c = small (named (found c))
 
-write-row-requires : tie.Need-write-row-requires Inv-loop μ-loop
-write-row-requires c κs = let k = c .before .before .before .before .before .before .before .before .before .before .before .before .before .before .before .before in (small k, dues-length (atTime (then k)) (concerns k .sound))
-
-write-row-requires-2 : tie.Need-write-row-requires-2 Inv-loop μ-loop
-write-row-requires-2 c κs = let k = c .before .before .before .before .before .before .before .before .before .before .before .before .before .before .before .before .before .before in (small k, amounts-length (atTime (then k)) (concerns k .sound))
+write-pending-requires : tie.Need-write-pending-requires Inv-loop μ-loop
+write-pending-requires c κs =
+    let k = named (found (c .before .before)) in
+    let a = concerns k .sound in (small k, dues-length (atTime (charged k)) a, amounts-length (atTime (charged k)) a)
 
 shift-requires : tie.Need-shift-requires Inv-loop μ-loop
-shift-requires c κs = let k = c .before .before .before .before .before .before .before .before .before .before .before .before .before .before .before .before .before .before .before .before in laws.shift-requires (atTime (then k)) (eventOf (still (then k))) _ _ (concerns k) _ (c .before .before .before .before .before .before .before .before .before .before .before .before .before .before .pending-at .ensures) _ (c .before .before .before .before .before .before .before .before .before .before .before .before .change-of .ensures)
+shift-requires c κs =
+    let f = found (c .before .before .before .before) in
+    let k = named f in
+    laws.shift-requires (atTime (charged k)) (eventAt (charged k)) _ _ (concerns k) _ (f .pending-at .ensures) _ (c .before .before .before .before .before .before .before .before .change-of .ensures)
 
 loop-less-3 : tie.Need-loop-less-3 Inv-loop μ-loop
-loop-less-3 c = turn-ends _ _ (c .before .before .before .before .before .before .before .before .before .before .before .before .before .before .before .before .before .before .before .before .before .before .before .before .before .before .before .before .before .before .if2 .left)
+loop-less-3 c = turn-ends _ _ (still (rest (charged (named (found (c .before .before .before .before .before))))) .if2 .left)
 
 loop-again-3 : tie.Need-loop-again-3 Inv-loop μ-loop
 loop-again-3 c =
-    let k = c .before .before .before .before .before .before .before .before .before .before .before .before .before .before .before .before .before .before .before .before .before in
-    let b = then k in
-    let e = eventOf (still b) in
-    finishes _ e _ (stateHere (still b)) (accepted b) (to-come (still b)) (atTime b) (has-passed b) _
-    (change-is (atTime b) e _ _ (concerns k) _ (c .before .before .before .before .before .before .before .before .before .before .before .before .before .before .before .pending-at .ensures) _ (c .before .before .before .before .before .before .before .before .before .before .before .before .before .change-of .ensures) _ (c .before .before .before .before .before .before .with-server .ensures) _ _ _ _ (c .before .before .before .before .write-row .ensures) (c .before .before .write-row2 .ensures) (c .shift .ensures .0) (c .shift .ensures .1))
+    let w = c .before .before in
+    let p = w .before .before .before in
+    let k = named (found p) in
+    finished (charged k) _
+    (change-is (atTime (charged k)) (eventAt (charged k)) _ _ (concerns k) _ (found p .pending-at .ensures) _ (p .before .before .before .before .change-of .ensures) _ (p .served .ensures) _ _ _ _ (w .write-pending .ensures .0) (w .write-pending .ensures .1) (c .shift .ensures .0) (c .shift .ensures .1))
 
 pub answer-event-spec : {M : Type 1} → statement M
 answer-event-spec =
@@ -275,7 +402,10 @@ answer-event-spec =
     (tie.spec
     Inv-loop
     μ-loop
-    known-sound-requires
+    slots-requires
+    slots-requires-2
+    tested-requires
+    nothing-runs-requires
     returns
     index-requires
     mul-named
@@ -290,6 +420,7 @@ answer-event-spec =
     element-copy-out-runner
     next-moment-requires
     running-requires
+    answer-of-requires
     returns-2
     due-by-requires
     advance-requires
@@ -308,12 +439,11 @@ answer-event-spec =
     element-copy-out-t
     pending-at-requires
     change-of-requires
-    with-server-requires
+    served-requires
     mul-changed
     element-set-from-changed
     element-write-s
-    write-row-requires
-    write-row-requires-2
+    write-pending-requires
     shift-requires
     loop-less-3
     loop-again-3)

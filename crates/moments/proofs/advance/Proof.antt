@@ -11,6 +11,7 @@ use Rattle.account.specs.Rules.{Room}
 use Rattle.passing.specs.Time.{dueBy}
 use Rattle.state.specs.declared.State.{State}
 use Rattle.state.specs.State.{threadAt}
+use Rattle.state.specs.Updates.{whole}
 use Rattle.state.proofs.SoundLaws.{Sound, state-out}
 use Rattle.ticks.specs.Running.{nextDue}
 use Rattle.moments.proofs.TurnLaws.{weight, start}
@@ -21,15 +22,22 @@ use Rattle.moments.proofs.advance.Statement.{statement}
 use Rattle.moments.proofs.advance.Tie as tie
 
 abbrev Inv-loop : tie.InvT-loop
-Inv-loop t s₀ n x₀ s x = Between s₀ t n s x
+Inv-loop dues₀ amounts₀ t s₀ n x₀ dues amounts s x = Between (whole s₀ dues₀ amounts₀) t n (whole s dues amounts) x
 
 abbrev μ-loop : tie.MeasureT-loop
-μ-loop t s₀ n x₀ s x = weight t s
+μ-loop dues₀ amounts₀ t s₀ n x₀ dues amounts s x = weight t (whole s dues amounts)
 
 -- ---- before the first turn
 
-sound : (c : tie.Start Inv-loop μ-loop) → Sound (c .args .s0)
-sound c = state-out (c .args .s0) (c .pre .0)
+-- the state as it was given, and at a turn
+abbrev given : tie.Start Inv-loop μ-loop → State
+given c = whole (c .args .t1) (c .args .dues .now) (c .args .amounts .now)
+
+abbrev here : tie.At-loop Inv-loop μ-loop → State
+here c = whole (c .loop .s) (c .loop .dues) (c .loop .amounts)
+
+sound : (c : tie.Start Inv-loop μ-loop) → Sound (given c)
+sound c = state-out (given c) (c .pre .0)
 
 cast-n : tie.Need-cast-n Inv-loop μ-loop
 cast-n c = omega (tests, sound c .sizes)
@@ -40,7 +48,7 @@ next-due-requires c κs = omega (tests, sound (c .before .before .before) .sizes
 loop-holds : tie.Need-loop-holds Inv-loop μ-loop
 loop-holds c =
     let a = c .before .before .before .before in
-    record { going = start (a .args .s0) (a .args .t) (sound a) (a .pre .1); size = refl; first = c .next-due .ensures }
+    record { going = start (given a) (a .args .t) (sound a) (a .pre .1); size = refl; first = c .next-due .ensures }
 
 -- ---- the next moment
 
@@ -48,7 +56,7 @@ highest-requires : tie.Need-highest-requires Inv-loop μ-loop
 highest-requires c κs = tt
 
 head-at-requires : tie.Need-head-at-requires Inv-loop μ-loop
-head-at-requires c κs = let a = c .before .before .before .loop in seen-held (λ i. a .s .now - 1) (a .s) (a .inv .going .mid) (c .before .before .highest .result) (c .before .before .highest .ensures)
+head-at-requires c κs = let a = c .before .before .before in seen-held (λ i. here a .now - 1) (here a) (a .loop .inv .going .mid) (c .before .before .highest .result) (c .before .before .highest .ensures)
 
 wide-requires : tie.Need-wide-requires Inv-loop μ-loop
 wide-requires c κs = tt
@@ -56,8 +64,8 @@ wide-requires c κs = tt
 -- the head is a thread number
 head-small : (c : tie.After-wide Inv-loop μ-loop) → c .wide .result < 32
 head-small c =
-    let a = c .before .before .before .before .before .loop in
-    omega (arith, c .wide .ensures, top-small (λ i. a .s .now - 1) (a .s) (a .inv .going .mid) (c .before .before .before .before .highest .result) (c .before .head-at .result) (c .before .before .before .before .highest .ensures) (c .before .head-at .ensures))
+    let a = c .before .before .before .before .before in
+    omega (arith, c .wide .ensures, top-small (λ i. here a .now - 1) (here a) (a .loop .inv .going .mid) (c .before .before .before .before .highest .result) (c .before .head-at .result) (c .before .before .before .before .highest .ensures) (c .before .head-at .ensures))
 
 mul-before : tie.Need-mul-before Inv-loop μ-loop
 mul-before c = omega (arith, head-small c)
@@ -67,9 +75,9 @@ element-copy-out-before c = head-small c
 
 limit-at-requires : tie.Need-limit-at-requires Inv-loop μ-loop
 limit-at-requires c κs =
-    let a = c .before .before .before .before .before .before .loop in
-    let f = thread-fits (λ i. a .s .now - 1) (a .s) (a .inv .going .mid) (c .before .wide .result) (head-small (c .before)) in
-    omega (tests, f .left, f .server, a .inv .going .mid .sizes)
+    let a = c .before .before .before .before .before .before in
+    let f = thread-fits (λ i. here a .now - 1) (here a) (a .loop .inv .going .mid) (c .before .wide .result) (head-small (c .before)) in
+    omega (tests, f .left, f .server, a .loop .inv .going .mid .sizes)
 
 earlier-of-requires : tie.Need-earlier-of-requires Inv-loop μ-loop
 earlier-of-requires c κs = tt
@@ -87,10 +95,10 @@ entry e = e .before .before .before .before .before .before .before .before .bef
 abbrev turn : Read → Turn
 turn e =
     record {
-      origin = entry e .args .s0;
+      origin = given (entry e);
       to = entry e .args .t;
       bounded = entry e .pre .2;
-      state = e .before .before .before .before .before .before .before .before .loop .s;
+      state = here (e .before .before .before .before .before .before .before .before);
       going = e .before .before .before .before .before .before .before .before .loop .inv .going;
       first = e .before .before .before .before .before .before .before .before .loop .x;
       list = e .before .before .before .before .before .before .before .highest .result;
@@ -108,7 +116,7 @@ turn e =
       };
     }
 
-abbrev size : (e : Read) → turn e .state .header .n ≡ entry e .args .s0 .header .n
+abbrev size : (e : Read) → turn e .state .header .n ≡ entry e .args .t1 .header .n
 size e = e .before .before .before .before .before .before .before .before .loop .inv .size
 
 -- ---- no moment is due by t
@@ -393,7 +401,7 @@ next-due-from-requires : tie.Need-next-due-from-requires Inv-loop μ-loop
 next-due-from-requires c κs =
     let w = c .before .before .before .before in
     let k = for (ruling w) in
-    let n : entry (of k .before .before .before .before) .args .s0 .header .n ≤ 32 = omega (tests, size (of k .before .before .before .before), turnOf (of k) .going .mid .sizes) in
+    let n : entry (of k .before .before .before .before) .args .t1 .header .n ≤ 32 = omega (tests, size (of k .before .before .before .before), turnOf (of k) .going .mid .sizes) in
     (n, λ i l p. put-later (turnOf (of k)) _ _ _ (placed w) (acted (ruling w)) i (omega arith) p)
 
 loop-less-3 : tie.Need-loop-less-3 Inv-loop μ-loop

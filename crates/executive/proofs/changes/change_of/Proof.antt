@@ -1,6 +1,8 @@
 -- `executive::changes::change_of` meets its contract.
 use borrow.Author.Needs.{needs}
 use mathlib.Core.Path.{ap, ap₂, _∙_}
+use Rattle.account.specs.declared.Pending.{Pending}
+use Rattle.account.specs.declared.Account.{Account}
 use Rattle.thread.specs.declared.Thread.{Thread}
 use Rattle.thread.specs.Thread.{withBlocked}
 use Rattle.events.specs.Events.{becomes, changeOf}
@@ -8,11 +10,14 @@ use Rattle.executive.proofs.ChangeLaws.{change-at, change-last}
 use Rattle.executive.proofs.changes.change_of.Statement.{statement}
 use Rattle.executive.proofs.changes.change_of.Tie as tie
 
+abbrev with-entries : Thread → Pending → Account
+with-entries t q = record { server = t .server; pending = q }
+
 with-blocked-requires : tie.Need-with-blocked-requires
 with-blocked-requires c κs = search needs
 
 after-block-requires : tie.Need-after-block-requires
-after-block-requires c κs = c .before .before .before .pre .1 (c .before .if1 .taken)
+after-block-requires c κs = c .before .before .before .before .pre .1 (c .before .if1 .taken)
 
 change-to-requires : tie.Need-change-to-requires
 change-to-requires c κs = search needs
@@ -21,8 +26,8 @@ returns : tie.Need-returns
 unfolding changeOf
 returns c =
     let b = c .before .before .before in
-    let a = b .before .before .args in
-    c .change-to .ensures ∙ ap₂ (becomes (a .t) (a .a)) (c .before .before .with-blocked .ensures) (c .before .after-block .ensures) ∙ change-at (a .e .kind) (a .e .time) (a .e .parameters) (a .t) (a .a) 1 (b .if1 .taken)
+    let a = b .before .before .before .args in
+    c .change-to .ensures ∙ ap₂ (becomes (a .t) (with-entries (a .t) (a .q))) (c .before .before .with-blocked .ensures) (c .before .after-block .ensures) ∙ change-at (a .e .kind) (a .e .time) (a .e .parameters) (a .t) (with-entries (a .t) (a .q)) 1 (b .if1 .taken)
 
 full-quantum-requires : tie.Need-full-quantum-requires
 full-quantum-requires c κs = search needs
@@ -34,8 +39,8 @@ returns-2 : tie.Need-returns-2
 unfolding changeOf
 returns-2 c =
     let b = c .before .before in
-    let a = b .before .before .before .before .args in
-    c .change-to2 .ensures ∙ ap (λ (u : Thread). becomes (a .t) (a .a) u (a .a)) (c .before .full-quantum .ensures) ∙ change-at (a .e .kind) (a .e .time) (a .e .parameters) (a .t) (a .a) 2 (b .if2 .taken)
+    let a = b .before .before .before .before .before .args in
+    c .change-to2 .ensures ∙ ap (λ (u : Thread). becomes (a .t) (with-entries (a .t) (a .q)) u (with-entries (a .t) (a .q))) (c .before .full-quantum .ensures) ∙ change-at (a .e .kind) (a .e .time) (a .e .parameters) (a .t) (with-entries (a .t) (a .q)) 2 (b .if2 .taken)
 
 full-quantum-requires-2 : tie.Need-full-quantum-requires-2
 full-quantum-requires-2 c κs = search needs
@@ -53,9 +58,9 @@ returns-3 : tie.Need-returns-3
 unfolding changeOf
 returns-3 c =
     let b = c .before .before .before .before in
-    let a = b .before .before .before .before .before .before .args in
+    let a = b .before .before .before .before .before .before .before .args in
     let u = c .before .before .with-blocked2 .ensures ∙ ap (withBlocked 0) (c .before .before .before .full-quantum2 .ensures) in
-    c .change-to3 .ensures ∙ ap₂ (becomes (a .t) (a .a)) u (c .before .after-wake .ensures) ∙ change-at (a .e .kind) (a .e .time) (a .e .parameters) (a .t) (a .a) 3 (b .if3 .taken)
+    c .change-to3 .ensures ∙ ap₂ (becomes (a .t) (with-entries (a .t) (a .q))) u (c .before .after-wake .ensures) ∙ change-at (a .e .kind) (a .e .time) (a .e .parameters) (a .t) (with-entries (a .t) (a .q)) 3 (b .if3 .taken)
 
 renew-requires : tie.Need-renew-requires
 renew-requires c κs = search needs
@@ -70,10 +75,10 @@ returns-4 : tie.Need-returns-4
 unfolding changeOf
 returns-4 c =
     let b = c .before .before .before in
-    let d = b .before .before .before .before .before .before in
+    let d = b .before .before .before .before .before .before .before in
     let a = d .before .args in
-    c .change-to4 .ensures ∙ ap₂ (becomes (a .t) (a .a)) (c .before .before .renew .ensures) (c .before .new-account .ensures)
-    ∙ change-last (a .e .kind) (a .e .time) (a .e .parameters) (a .t) (a .a) (d .before .pre .0) (b .before .before .before .before .before .if1 .left) (b .before .before .before .if2 .left) (b .before .if3 .left)
+    c .change-to4 .ensures ∙ ap₂ (becomes (a .t) (with-entries (a .t) (a .q))) (c .before .before .renew .ensures) (c .before .new-account .ensures)
+    ∙ change-last (a .e .kind) (a .e .time) (a .e .parameters) (a .t) (with-entries (a .t) (a .q)) (d .before .pre .0) (b .before .before .before .before .before .if1 .left) (b .before .before .before .if2 .left) (b .before .if3 .left)
 
 pub change-of-spec : {M : Type 1} → statement M
 change-of-spec =

@@ -1,16 +1,27 @@
 -- `executive::opening::enter` meets its contract.
 use borrow.Author.Needs.{needs}
 use Prim.Native.Nat.{ℕ}
-use mathlib.Core.Path.{ap, _∙_, subst⁻¹}
+use mathlib.Core.Path.{ap, _∙_}
+use lib.ListN.{set}
 use borrow.Author.Tests.{ne-eqb}
-use Rattle.ready.specs.Rules.{Joinable}
 use Rattle.state.specs.declared.State.{State}
 use Rattle.state.specs.State.{threadAt}
-use Rattle.executive.proofs.StateLaws.{lists-are}
+use Rattle.state.specs.Updates.{stateOf, whole}
+use Rattle.thread.specs.Thread.{withBlocked}
+use Rattle.executive.proofs.StateLaws.{put-is, lists-are}
 use Rattle.executive.proofs.OpenLaws.{enters-blocked, enters-list}
 use Rattle.executive.proofs.opening.enter.Statement.{statement}
 use Rattle.executive.proofs.opening.enter.Tie as tie
-use Rattle.thread.specs.Thread.{withBlocked}
+
+-- the thread and its account are in place
+abbrev Put : Type 0
+Put = tie.After-write-pending
+
+abbrev started : Put → tie.Start
+started c = c .before .before .before .before .before .before .before .before .before .before .before .before
+
+abbrev stateGiven : Put → State
+stateGiven c = let a = started c .args in whole (a .t1) (a .dues .now) (a .amounts .now)
 
 wide-requires : tie.Need-wide-requires
 wide-requires c κs = search needs
@@ -36,30 +47,47 @@ renew-requires c κs = search needs
 new-account-requires : tie.Need-new-account-requires
 new-account-requires c κs = search needs
 
-put-requires : tie.Need-put-requires
-put-requires c κs = search needs
+served-requires : tie.Need-served-requires
+served-requires c κs = search needs
+
+mul-served : tie.Need-mul-served
+mul-served c = search needs
+
+element-set-from-served : tie.Need-element-set-from-served
+element-set-from-served c = search needs
+
+element-write-r : tie.Need-element-write-r
+element-write-r c = search needs
+
+write-pending-requires : tie.Need-write-pending-requires
+write-pending-requires c κs = search needs
 
 returns : tie.Need-returns
 returns c =
-    let b = c .before .before .before .before .before in
-    let start = b .before .before .before .before .before in
-    enters-blocked (start .args .t1) (start .args .k) _ (b .before .before .before .before .wide .ensures) (start .args .p) _ (b .before .before .before .without-flag .ensures) _ (b .with-blocked .ensures ∙ ap (λ (n : ℕ). withBlocked n (threadAt (start .args .t1) (b .before .before .before .before .wide .result))) (b .before .starts-blocked .ensures))
-    _ (c .before .before .before .before .renew .ensures) _ (c .before .before .before .new-account .ensures) _ (c .before .before .put .ensures) (c .if1 .taken) (start .pre .3)
+    let w = c .before .before in
+    let v = w .before .before .before in
+    let n = v .before .before in
+    let b = n .before .before in
+    let f = b .before .before .before in
+    let a = started w .args in
+    enters-blocked (stateGiven w) (a .k) _ (f .before .wide .ensures) (a .p) _ (f .without-flag .ensures) _ (b .with-blocked .ensures ∙ ap (λ (x : ℕ). withBlocked x (threadAt (stateGiven w) (f .before .wide .result))) (b .before .starts-blocked .ensures))
+    _ (n .before .renew .ensures) _ (n .new-account .ensures) _ (put-is (stateGiven w) _ (n .before .renew .result) (n .new-account .result) _ _ _ (v .served .ensures) (w .write-pending .ensures .0) (w .write-pending .ensures .1)) (c .if1 .taken) (started w .pre .3)
 
 append-requires : tie.Need-append-requires
-append-requires c κs =
-    let put = c .before .before .before in
-    let start = put .before .before .before .before .before .before .before .before in
-    subst⁻¹ (λ (x : State). Joinable (x .word) (start .args .p .priority) (x .lists)) (put .put .ensures) (start .pre .4 (ne-eqb (start .args .p .flag) 0 (c .before .if1 .left)))
+append-requires c κs = let s = started (c .before .before .before) in s .pre .4 (ne-eqb (s .args .p .flag) 0 (c .before .if1 .left))
 
 returns-2 : tie.Need-returns-2
 returns-2 c =
-    let put = c .before .before .before .before in
-    let b = put .before .before .before in
-    let start = b .before .before .before .before .before in
-    lists-are (put .put .result) _ _ _ (c .append .ensures .0) (c .append .ensures .1)
-    ∙ enters-list (start .args .t1) (start .args .k) _ (b .before .before .before .before .wide .ensures) (start .args .p) _ (b .before .before .before .without-flag .ensures) _ (b .with-blocked .ensures ∙ ap (λ (n : ℕ). withBlocked n (threadAt (start .args .t1) (b .before .before .before .before .wide .result))) (b .before .starts-blocked .ensures))
-    _ (put .before .before .renew .ensures) _ (put .before .new-account .ensures) _ (put .put .ensures) (c .before .before .if1 .left)
+    let w = c .before .before .before .before in
+    let v = w .before .before .before in
+    let n = v .before .before in
+    let b = n .before .before in
+    let f = b .before .before .before in
+    let a = started w .args in
+    let u = stateOf (stateGiven w .header) (stateGiven w .now) (stateGiven w .idle) (stateGiven w .word) (set (stateGiven w .threads) (f .before .wide .result) (v .served .result)) (set (stateGiven w .counts) (f .before .wide .result) (n .new-account .result .pending .count)) (w .write-pending .last .0) (w .write-pending .last .1 .0) (stateGiven w .lists) in
+    lists-are u _ _ _ (c .append .ensures .0) (c .append .ensures .1)
+    ∙ enters-list (stateGiven w) (a .k) _ (f .before .wide .ensures) (a .p) _ (f .without-flag .ensures) _ (b .with-blocked .ensures ∙ ap (λ (x : ℕ). withBlocked x (threadAt (stateGiven w) (f .before .wide .result))) (b .before .starts-blocked .ensures))
+    _ (n .before .renew .ensures) _ (n .new-account .ensures) u (put-is (stateGiven w) _ (n .before .renew .result) (n .new-account .result) _ _ _ (v .served .ensures) (w .write-pending .ensures .0) (w .write-pending .ensures .1)) (c .before .before .if1 .left)
 
 pub enter-spec : {M : Type 1} → statement M
 enter-spec =
@@ -73,7 +101,11 @@ enter-spec =
     with-blocked-requires
     renew-requires
     new-account-requires
-    put-requires
+    served-requires
+    mul-served
+    element-set-from-served
+    element-write-r
+    write-pending-requires
     returns
     append-requires
     returns-2)

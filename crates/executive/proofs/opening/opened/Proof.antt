@@ -1,27 +1,33 @@
 -- `executive::opening::opened` meets its contract. The invariant: the first k threads have entered.
 use Rattle.records.specs.Ranges.{noParameters}
 use Prim.Native.Nat.{ℕ, _-_, _≤_}
-use mathlib.Core.Path.{_≡_, ap, _∙_}
+use mathlib.Core.Path.{_≡_, ap, ap₂, _∙_}
 use lib.ListN.{getD}
 use native.Mathlib.Omega.{arith}
 use borrow.Author.Needs.{needs}
+use Rattle.state.specs.Updates.{whole}
 use Rattle.events.specs.Opening.{emptyState, entered, enteredBelow}
 use Rattle.executive.proofs.OpenLaws.{few, next-enters, below-next}
 use Rattle.executive.proofs.opening.opened.Statement.{statement}
 use Rattle.executive.proofs.opening.opened.Tie as tie
 
 abbrev Inv-loop : tie.InvT-loop
-Inv-loop header table s₀ k₀ s k = (k ≤ header .n) × (header .n ≤ 32) × (s ≡ enteredBelow k table (emptyState header))
+Inv-loop header dues₀ amounts₀ table s₀ k₀ dues amounts s k = (k ≤ header .n) × (header .n ≤ 32) × (whole s dues amounts ≡ enteredBelow k table (emptyState header))
 
 abbrev μ-loop : tie.MeasureT-loop
-μ-loop header table s₀ k₀ s k = header .n - k
+μ-loop header dues₀ amounts₀ table s₀ k₀ dues amounts s k = header .n - k
 
-empty-state-requires : tie.Need-empty-state-requires Inv-loop μ-loop
-empty-state-requires c κs = search needs
+empty-core-requires : tie.Need-empty-core-requires Inv-loop μ-loop
+empty-core-requires c κs = search needs
 
 loop-holds : tie.Need-loop-holds Inv-loop μ-loop
 unfolding enteredBelow
-loop-holds c = let a = c .before in (omega arith, few (a .args .header) (a .args .t2) (a .pre), c .empty-state .ensures)
+loop-holds c =
+    let a = c .before in (
+      omega arith,
+      few (a .args .header) (a .args .t2) (a .pre .0),
+      ap₂ (whole (c .empty-core .result)) (a .pre .1) (a .pre .2) ∙ c .empty-core .ensures,
+    )
 
 cast-p : tie.Need-cast-p Inv-loop μ-loop
 cast-p c = omega arith
@@ -37,9 +43,9 @@ cast-enter c = omega arith
 
 enter-requires : tie.Need-enter-requires Inv-loop μ-loop
 enter-requires c κs =
-    let b = c .before .before .before in
+    let b = c .before .before .before .before .before in
     let a = b .before .before in
-    next-enters (a .args .header) (a .args .t2) (a .pre) (b .loop .k) (c .before .if1 .taken) (b .loop .s) (b .loop .inv .2)
+    next-enters (a .args .header) (a .args .t2) (a .pre .0) (b .loop .k) (c .before .before .before .if1 .taken) (whole (b .loop .s) (b .loop .dues) (b .loop .amounts)) (b .loop .inv .2)
 
 add-k : tie.Need-add-k Inv-loop μ-loop
 add-k c = omega arith
@@ -49,7 +55,7 @@ loop-less c = omega arith
 
 loop-again : tie.Need-loop-again Inv-loop μ-loop
 loop-again c =
-    let b = c .before .before .before .before in
+    let b = c .before .before .before .before .before .before in
     let a = b .before .before .args in (
       omega arith,
       omega arith,
@@ -71,7 +77,7 @@ opened-spec =
     (tie.spec
     Inv-loop
     μ-loop
-    empty-state-requires
+    empty-core-requires
     loop-holds
     cast-p
     mul-p

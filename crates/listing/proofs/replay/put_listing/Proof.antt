@@ -1,41 +1,70 @@
 -- `listing::replay::put_listing` meets its contract: the line of the refusal, or the parts of a replay one after another.
 use native.Mathlib.Omega.{arith}
 use borrow.Author.Needs.{needs}
+use Rattle.replay_steps.specs.FileSteps.{Beginning, begunWith}
 use Rattle.listing.specs.Lines.{refusedLine}
+use Rattle.listing.proofs.PrintLaws.{few}
 use Rattle.listing.proofs.ListingLaws.{refusal-put, replay-put}
 use Rattle.listing.proofs.replay.put_listing.Statement.{statement}
 use Rattle.listing.proofs.replay.put_listing.Tie as tie
 
+-- the file is begun
+abbrev Begins : Type 0
+Begins = tie.After-begin
+
+abbrev started : Begins → tie.Start
+started c = c .before .before .before .before .before
+
+abbrev beginning : Begins → Beginning
+beginning c = begunWith (c .begin .result) (c .begin .last .1 .0) (c .begin .last .1 .1 .0)
+
+-- the lines of its events are put
+abbrev Lined : Type 0
+Lined = tie.After-put-events
+
+abbrev headed : Lined → tie.After-put-header
+headed c = c .before .before .before .before .before .before
+
+abbrev opens : tie.After-put-header → tie.Else1
+opens c = c .before .before .before .before
+
 returns : tie.Need-returns
 unfolding refusedLine
 returns c =
-    let cp = c .before .before in
-    let ci = cp .before .before .before in
-    let cb = ci .before in (
-      refusal-put (cb .before .before .before .args .file .now) _ (cb .begin .ensures .0) (ci .if1 .taken) (cp .put-labelled .ensures .0),
-      omega (arith, cp .put-labelled .ensures .1),
+    let p = c .before .before in
+    let i = p .before .before .before in
+    let b = i .before in (
+      refusal-put (started b .args .file .now) (beginning b) (b .begin .ensures .0) (i .if1 .taken) (p .put-labelled .ensures .0),
+      omega (arith, p .put-labelled .ensures .1),
     )
 
 put-events-requires : tie.Need-put-events-requires
 put-events-requires c κs =
-    let ch = c .before .before .before in
-    let ci = ch .before .before .before .before in
-    let cb = ci .before in (
-      cb .begin .ensures .1 (ci .if1 .left),
-      omega (arith, ch .put-header .ensures .next, ch .put-header .kept .0, cb .before .before .before .pre),
+    let h = c .before .before .before .before .before in
+    let b = opens h .before in (
+      b .begin .ensures .1 (opens h .if1 .left),
+      omega (arith, h .put-header .ensures .next, h .put-header .kept .0, started b .pre),
+    )
+
+put-threads-requires : tie.Need-put-threads-requires
+put-threads-requires c κs =
+    let l = c .before .before .before .before in
+    let h = headed l in
+    let b = opens h .before in (
+      few _ (l .put-events .ensures .1 .1),
+      omega (arith, h .put-header .ensures .next, h .put-header .kept .0, l .put-events .kept .0, l .put-events .ensures .1 .2, started b .pre),
     )
 
 returns-2 : tie.Need-returns-2
 returns-2 c =
     let t = c .before .before .put-threads in
-    let ce = c .before .before .before .before .before .before .before in
-    let ch = ce .before .before .before .before in
-    let ci = ch .before .before .before .before in
-    let cb = ci .before in
-    let a = cb .before .before .before in
-    let d = ch .put-header in
-    let e = ce .put-events in (
-      replay-put (a .args .file .now) (e .result .state) (omega (arith, d .ensures .next, a .pre)) (omega (arith, d .ensures .next, e .ensures .1 .2, a .pre)) (d .ensures) (t .ensures .0) _ (cb .begin .ensures .0) (ci .if1 .left) (e .ensures .0) (e .ensures .1 .0),
+    let l = c .before .before .before .before .before .before .before in
+    let h = headed l in
+    let b = opens h .before in
+    let a = started b in
+    let d = h .put-header in
+    let e = l .put-events in (
+      replay-put (a .args .file .now) _ (omega (arith, d .ensures .next, a .pre)) (omega (arith, d .ensures .next, e .ensures .1 .2, a .pre)) (d .ensures) (t .ensures .0 _ _) (beginning b) (b .begin .ensures .0) (opens h .if1 .left) (e .ensures .0) (e .ensures .1 .0),
       omega (arith, d .ensures .next, e .ensures .1 .2, t .ensures .1),
     )
 
@@ -51,6 +80,6 @@ put-listing-spec =
     returns
     (λ c κs. search needs)
     put-events-requires
-    (λ c κs. search needs)
+    put-threads-requires
     (λ c. search needs)
     returns-2)

@@ -1,29 +1,31 @@
 -- `listing::replay::put_threads` meets its contract: the lines so far are those of the first i threads.
-use Prim.Native.Nat.{_+_, _-_, _*_, _≤_}
+use Prim.Native.Nat.{ℕ, _+_, _-_, _*_, _≤_}
+use mathlib.Core.List.{List}
 use mathlib.Core.Path.{_≡_, refl, _∙_}
 use native.Mathlib.Omega.{arith}
 use borrow.Author.Needs.{needs}
 use lib.ListN.{length}
+use Rattle.state.specs.Updates.{whole}
 use Rattle.text.specs.Placed.{Put}
 use Rattle.text.proofs.PlacedLaws.{after}
 use Rattle.listing.specs.Lines.{threadLines, idleLine}
 use Rattle.listing.specs.Private.{threadLineMost}
-use Rattle.listing.proofs.PrintLaws.{few, threads-none, threads-next}
+use Rattle.listing.proofs.PrintLaws.{threads-none, threads-next}
 use Rattle.listing.proofs.replay.put_threads.Statement.{statement}
 use Rattle.listing.proofs.replay.put_threads.Tie as tie
 
 abbrev Inv-loop : tie.InvT-loop
-Inv-loop out₀ at s n here₀ i₀ word out here i =
-    (i ≤ n) × (length out ≡ length out₀) × (here ≤ at + threadLineMost * i) × Put out₀ at (threadLines s i) out here
+Inv-loop out₀ at c n here₀ i₀ word out here i =
+    (i ≤ n) × (length out ≡ length out₀) × (here ≤ at + threadLineMost * i) × ((dues amounts : List ℕ) → Put out₀ at (threadLines (whole c dues amounts) i) out here)
 
 abbrev μ-loop : tie.MeasureT-loop
-μ-loop out₀ at s n here₀ i₀ word out here i = n - i
+μ-loop out₀ at c n here₀ i₀ word out here i = n - i
 
 put-thread-requires : tie.Need-put-thread-requires Inv-loop μ-loop
 put-thread-requires c κs =
     let w = c .before .before .before .before .loop in
     let a = c .before .before .before .before .before .before in
-    let f = few (a .args .t3) (a .pre .0) in
+    let f = a .pre .0 in
     (omega (arith, f), omega (arith, f, a .pre .1, w .inv .1, w .inv .2))
 
 loop-again : tie.Need-loop-again Inv-loop μ-loop
@@ -34,14 +36,14 @@ loop-again c =
       omega arith,
       p .kept .0 ∙ w .inv .1,
       omega (arith, w .inv .2, p .ensures .1),
-      threads-next (a .args .t3) (w .i) (omega (arith, few (a .args .t3) (a .pre .0), a .pre .1, w .inv .2)) (w .inv .3) (p .ensures .0),
+      λ d m. threads-next (whole (a .args .t3) d m) (w .i) (omega (arith, a .pre .0, a .pre .1, w .inv .2)) (w .inv .3 d m) (p .ensures .0),
     )
 
 put-labelled-requires : tie.Need-put-labelled-requires Inv-loop μ-loop
 put-labelled-requires c κs =
     let w = c .before .before .before .loop in
     let a = c .before .before .before .before .before in
-    omega (arith, few (a .args .t3) (a .pre .0), a .pre .1, w .inv .1, w .inv .2)
+    omega (arith, a .pre .0, a .pre .1, w .inv .1, w .inv .2)
 
 same-length : tie.Need-same-length Inv-loop μ-loop
 same-length c = c .before .before .put-labelled .kept .0 ∙ c .before .before .before .before .before .before .loop .inv .1
@@ -52,9 +54,9 @@ returns c =
     let w = c .before .before .before .before .before .before .loop in
     let p = c .before .before .put-labelled in
     let a = c .before .before .before .before .before .before .before .before in
-    let f = few (a .args .t3) (a .pre .0) in
+    let f = a .pre .0 in
     let k : w .i ≡ a .args .t3 .header .n = omega arith in (
-      after (omega (arith, f, a .pre .1, w .inv .2)) (rw k at (w .inv .3)) (p .ensures .0),
+      λ d m. after (omega (arith, f, a .pre .1, w .inv .2)) (rw k at (w .inv .3 d m)) (p .ensures .0),
       omega (arith, w .inv .2, p .ensures .1, f),
     )
 
@@ -65,10 +67,10 @@ put-threads-spec =
     Inv-loop
     μ-loop
     (λ c. omega arith)
-    (λ c. (omega arith, refl, omega arith, threads-none _ _ _))
+    (λ c. (omega arith, refl, omega arith, λ d m. threads-none _ _ _))
     (λ c. omega arith)
-    (λ c. let a = c .before .before .before in omega (arith, few (a .args .t3) (a .pre .0)))
-    (λ c. let a = c .before .before .before .before .before in omega (arith, few (a .args .t3) (a .pre .0)))
+    (λ c. let a = c .before .before .before in omega (arith, a .pre .0))
+    (λ c. let a = c .before .before .before .before .before in omega (arith, a .pre .0))
     put-thread-requires
     (λ c. omega arith)
     (λ c. omega arith)

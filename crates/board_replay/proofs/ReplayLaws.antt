@@ -11,29 +11,26 @@ use Rattle.base.specs.Refusals.{firstRefusal}
 use Rattle.base.proofs.RefusalLaws.{given-second}
 use Rattle.state.specs.declared.State.{State}
 use Rattle.events.specs.Opening.{noState, openStatus, opening}
-use Rattle.executive.specs.declared.Answer.{Answer}
-use Rattle.executive.specs.Answer.{openAnswer}
+use Rattle.passing.specs.Sequence.{Answer}
 use Rattle.trace_contents.specs.declared.Contents.{Contents}
 use Rattle.trace_contents.specs.Read.{readStatus, contentsOf, nothing}
 use Rattle.trace_contents.proofs.ReadLaws.{contents-refused, contents-status}
-use Rattle.replay_steps.specs.declared.Begun.{Begun}
-use Rattle.replay_steps.specs.declared.Stepped.{Stepped}
-use Rattle.replay_steps.specs.FileSteps.{openingOf, begunOf, answersFrom}
+use Rattle.replay_steps.specs.FileSteps.{Beginning, FileStep, openingOf, begunOf, answersFrom}
 use Rattle.replay_steps.proofs.FileLaws.{Goes, Stops}
-use Rattle.board_trace.specs.Replayed.{lastOf, replayOf}
+use Rattle.board_replay.specs.Replayed.{lastOf, replayOf}
 
 -- one step more, and none
-pub last-next : (a : Answer) (s : State) (file : List ℕ) (offset k : ℕ) (r : Stepped) → Goes s file offset k r
-    → lastOf a (answersFrom s file offset (suc k)) ≡ lastOf (r .answer) (answersFrom (r .answer .state) file (r .offset) k)
+pub last-next : (a : Answer State) (s : State) (file : List ℕ) (offset left k : ℕ) (r : FileStep) → left ≡ suc k → Goes s file offset k r
+    → lastOf a (answersFrom s file offset left) ≡ lastOf (r .answer) (answersFrom (r .answer .state) file (r .offset) k)
 unfolding lastOf
-last-next a s file offset k r g = rw (g .answers)
+last-next a s file offset left k r e g = ap (λ (n : ℕ). lastOf a (answersFrom s file offset n)) e ∙ rw (g .answers)
 
-pub last-none : (a : Answer) (s : State) (file : List ℕ) (offset k : ℕ) → Stops s file offset k → lastOf a (answersFrom s file offset k) ≡ a
+pub last-none : (a : Answer State) (s : State) (file : List ℕ) (offset k : ℕ) → Stops s file offset k → lastOf a (answersFrom s file offset k) ≡ a
 unfolding lastOf
 last-none a s file offset k z = rw (z .answers)
 
 -- an opening that is refused has no threads
-closed : (header : Header) (table : List Parameters) → (openStatus header table ≡ 0 → ⊥) → openAnswer header table .state ≡ noState
+closed : (header : Header) (table : List Parameters) → (openStatus header table ≡ 0 → ⊥) → opening header table .state ≡ noState
 unfolding opening
 closed header table z = rw (ne-eqb (openStatus header table) 0 z)
 
@@ -42,7 +39,7 @@ none-opens : (status : ℕ) → openStatus (nothing status .header) (nothing sta
 unfolding openStatus nothing firstRefusal
 none-opens status = refl
 
-opens : (header : Header) (table : List Parameters) → openStatus header table ≡ 0 → openAnswer header table .status ≡ 0
+opens : (header : Header) (table : List Parameters) → openStatus header table ≡ 0 → opening header table .status ≡ 0
 unfolding opening
 opens header table z = rw (eq-eqb (openStatus header table) 0 z)
 
@@ -64,23 +61,23 @@ no-threads file n =
         let q : opensAs (contentsOf file) ≡ 5 = ap opensAs (contents-refused file (λ o. omega arith)) ∙ none-opens (readStatus file) in
         omega arith
 
-abbrev refusal : ℕ → State → Answer
+abbrev refusal : ℕ → State → Answer State
 refusal n s = record { status = n; running = 255; next = 0; state = s }
 
-module _ (file : List ℕ) (count : ℕ) (b : Begun) (e : b ≡ begunOf file) where
+module _ (file : List ℕ) (count : ℕ) (b : Beginning) (e : b ≡ begunOf file) where
   refuses : (b .status ≡ 0 → ⊥) → begunOf file .status ≡ 0 → ⊥
-  refuses n z = n (ap (λ (x : Begun). x .status) e ∙ z)
+  refuses n z = n (ap (λ (x : Beginning). x .status) e ∙ z)
 
   pub refused-is : (b .status ≡ 0 → ⊥) → refusal (b .status) (b .answer .state) ≡ replayOf file count
   unfolding replayOf begunOf
   refused-is n =
-      ap (λ (x : Begun). refusal (x .status) (x .answer .state)) e
+      ap (λ (x : Beginning). refusal (x .status) (x .answer .state)) e
       ∙ ap (refusal (begunOf file .status)) (no-threads file (refuses n))
       ∙ sym (cond-false _ _ _ (ne-eqb (begunOf file .status) 0 (refuses n)))
 
-  pub replayed-is : (a : Answer) → b .status ≡ 0 → a ≡ lastOf (b .answer) (answersFrom (b .answer .state) file (b .offset) count) → a ≡ replayOf file count
+  pub replayed-is : (a : Answer State) → b .status ≡ 0 → a ≡ lastOf (b .answer) (answersFrom (b .answer .state) file (b .offset) count) → a ≡ replayOf file count
   unfolding replayOf begunOf
   replayed-is a z h =
       h
-      ∙ ap (λ (x : Begun). lastOf (x .answer) (answersFrom (x .answer .state) file (x .offset) count)) e
-      ∙ sym (cond-true _ _ _ (eq-eqb (begunOf file .status) 0 (ap (λ (x : Begun). x .status) (sym e) ∙ z)))
+      ∙ ap (λ (x : Beginning). lastOf (x .answer) (answersFrom (x .answer .state) file (x .offset) count)) e
+      ∙ sym (cond-true _ _ _ (eq-eqb (begunOf file .status) 0 (ap (λ (x : Beginning). x .status) (sym e) ∙ z)))

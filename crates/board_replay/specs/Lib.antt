@@ -1,0 +1,2 @@
+-- What a reader of `board_replay` must believe, over the definitions of `replay_steps`.
+pub mod Replayed

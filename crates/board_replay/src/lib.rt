@@ -1,0 +1,71 @@
+// A replay of some of a trace file's events for programs in other languages. A library of its own: beside a listing's it would be a
+// second caller of what steps a file, and cost the listing its stack.
+ghost use mathlib.Core.Path.{_≡_};
+ghost use mathlib.Core.Bool.{true};
+ghost use Rattle.state.specs.Sound.{soundState};
+ghost use Rattle.state.specs.Updates.{whole};
+ghost use Rattle.executive.specs.Answer.{answerOf};
+ghost use Rattle.replay_steps.specs.FileSteps.{answersFrom};
+ghost use Rattle.board_replay.specs.Replayed.{lastOf, replayOf};
+use executive::Answer;
+use rows::Slots;
+
+// The answer to the last of at most `count` events from an offset on, or the one that is given.
+fn last_answer(
+    opened: Answer,
+    dues: &mut Slots,
+    amounts: &mut Slots,
+    file: &[u8],
+    first: usize,
+    count: usize,
+) -> Answer
+    requires { ⌜ soundState (whole (opened .core) (now dues) (now amounts)) ≡ true ⌝ }
+    ensures { λ r. ⌜ answerOf r (now (dues .exit)) (now (amounts .exit)) ≡ lastOf (answerOf opened (now (dues .entry)) (now (amounts .entry)))
+        (answersFrom (whole (opened .core) (now (dues .entry)) (now (amounts .entry))) (now (file .entry)) first count) ⌝ }
+{
+    let mut a = opened;
+    let mut offset = first;
+    let mut left = count;
+    while 0 < left {
+        left -= 1;
+        let c = a.core;
+        let step = replay_steps::step_at(c, dues, amounts, file, offset);
+        if !step.more {
+            let core = step.answer.core;
+            return Answer {
+                status: a.status,
+                running: a.running,
+                next: a.next,
+                core,
+            };
+        }
+        offset = step.offset;
+        a = step.answer;
+    }
+    a
+}
+
+// The answer to the last of a file's first `count` events, with the state after it; to the opening where there is none. The slots are
+// lent, and left as that state has them.
+#[no_mangle]
+pub extern "C" fn thawonlai_replay(
+    file: &[u8],
+    count: usize,
+    dues: &mut Slots,
+    amounts: &mut Slots,
+) -> Answer
+    ensures { λ r. ⌜ answerOf r (now (dues .exit)) (now (amounts .exit)) ≡ replayOf (now (file .entry)) count ⌝ }
+{
+    let begun = replay_steps::begin(file, dues, amounts);
+    let answer = begun.answer;
+    if begun.status != 0 {
+        let core = answer.core;
+        return Answer {
+            status: begun.status,
+            running: 255,
+            next: 0,
+            core,
+        };
+    }
+    last_answer(answer, dues, amounts, file, begun.offset, count)
+}

@@ -1,2 +1,0 @@
--- Laws of the functions.
-pub mod ReplayLaws
