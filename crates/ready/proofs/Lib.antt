@@ -5,4 +5,5 @@ pub mod ListLaws
 pub mod StepLaws
 pub mod Soundness
 pub mod StrikeLaws
+pub mod PassLaws
 pub mod SoundLaws

@@ -33,7 +33,7 @@ drop-past : (f r : List ℕ) (k n : ℕ) → length f ≡ k → drop (k + n) (f 
 drop-past f r k n e = rw (← e) (drop-append-add f r n)
 
 -- a part that ends within the front does not see what follows it
-within : (f r : List ℕ) (m n : ℕ) → m + n ≤ length f → take n (drop m (f ++ r)) ≡ take n (drop m f)
+pub within : (f r : List ℕ) (m n : ℕ) → m + n ≤ length f → take n (drop m (f ++ r)) ≡ take n (drop m f)
 within f r m n h = rw (drop-append-le m f r (omega arith)) (take-append-le n (drop m f) r (simp length-drop (omega arith)))
 
 -- ---- a row

@@ -33,7 +33,7 @@ pub record Struck (p : ℕ) (xs left left′ : List ℕ) (ok : Bool) : Type 0 wh
   pub test : ok ≡ strikes p xs left
   pub rest : ok ≡ true → left′ ≡ struck xs left
 
--- the same for the threads of a row, with the tests of the row itself
-pub record RowStruck (p : ℕ) (row left left′ : List ℕ) (ok : Bool) : Type 0 where
-  pub test : ok ≡ all (leb (size row) mostThreads ∷ all (zeros (unused row)) ∷ strikes p (members row) left ∷ [])
-  pub rest : ok ≡ true → left′ ≡ struck (members row) left
+-- the same for the threads of the list at the head of a part, with the tests of the part itself
+pub record RowStruck (p : ℕ) (part left left′ : List ℕ) (ok : Bool) : Type 0 where
+  pub test : ok ≡ all (leb 1 (size part) ∷ leb (size part) mostThreads ∷ all (zeros (unused part)) ∷ strikes p (members part) left ∷ [])
+  pub rest : ok ≡ true → left′ ≡ struck (members part) left

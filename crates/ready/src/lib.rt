@@ -10,7 +10,7 @@ ghost use Rattle.records.specs.Ranges.{mostThreads, highestPriority};
 ghost use Rattle.ready.specs.Lists.{rowBytes, listBytes, start, headOf, appended, removed, moved};
 ghost use Rattle.ready.specs.Word.{occupancy, highestOf};
 ghost use Rattle.ready.specs.Rules.{Held, Joinable, Leavable, Movable};
-ghost use Rattle.ready.specs.Sound.{soundLists, soundRows};
+ghost use Rattle.ready.specs.Sound.{soundLists};
 ghost use Rattle.ready.specs.Private.{indexOf, closed, Struck, RowStruck};
 use base::wide;
 use records::HIGHEST_PRIORITY;
@@ -166,57 +166,47 @@ fn strike(s: &[u8], p: u8, left: &mut [u8; THREADS]) -> bool
     true
 }
 
-// Whether the row of list p is in order and its threads, each with the place p, could be struck off `left`.
-fn strike_row(row: &[u8], p: u8, left: &mut [u8; THREADS]) -> bool
-    requires { ⌜ (1 ≤ p) × (length (now row) ≡ rowBytes) × (length (now left) ≡ mostThreads) ⌝ }
-    ensures { λ r. ⌜ RowStruck p (now (row .entry)) (now (left .entry)) (now (left .exit)) r ⌝ }
+// Whether the list at the head of `part` holds a thread, all behind its threads is 0, and they, each with the place p, could be
+// struck off `left`. The part is the row of list p, and may go on behind it.
+fn strike_row(part: &[u8], p: u8, left: &mut [u8; THREADS]) -> bool
+    requires { ⌜ (1 ≤ p) × (rowBytes ≤ length (now part)) × (length (now left) ≡ mostThreads) ⌝ }
+    ensures { λ r. ⌜ RowStruck p (now (part .entry)) (now (left .entry)) (now (left .exit)) r ⌝ }
 {
-    let n = wide(row[0]);
-    // most lists are empty: a test of a known length, and nothing to strike off
+    let n = wide(part[0]);
     if n < 1 {
-        return all_zero(&row[1..]);
+        return false;
     }
     if THREADS < n {
         return false;
     }
-    if !all_zero(&row[n + 1..]) {
+    if !all_zero(&part[n + 1..]) {
         return false;
     }
-    strike(&row[1..n + 1], p, left)
+    strike(&part[1..n + 1], p, left)
 }
 
-// Whether every list holds the threads that have its priority as their place, each once, and no other.
-// One pass over the rows strikes each thread off a copy of the places; at the end no place is left.
-fn sound_rows(lists: &[u8], places: [u8; THREADS]) -> bool
+// Whether lists and word are sound. One pass over the lists that the word names, from the highest down, strikes each thread off
+// a copy of the places; all between them is 0, lengths included, and at the end no place is left.
+fn sound_rows(lists: &[u8], word: u32, places: [u8; THREADS]) -> bool
     requires { ⌜ length (now lists) ≡ listBytes ⌝ }
-    ensures { λ r. ⌜ r ≡ soundRows (λ i. getD places i 0) (now (lists .entry)) ⌝ }
+    ensures { λ r. ⌜ r ≡ soundLists (λ i. getD places i 0) word (now (lists .entry)) ⌝ }
 {
     let mut left = places;
-    let mut p: u8 = 0;
-    let mut at: usize = 0;
-    while p < HIGHEST_PRIORITY {
-        p = p + 1;
-        if !strike_row(&lists[at..at + ROW_BYTES], p, &mut left) {
+    let mut rest = word;
+    let mut end: usize = LIST_BYTES;
+    while 0 < rest {
+        let p = highest(rest);
+        let at = row_start(p);
+        if !strike_row(&lists[at..end], p, &mut left) {
             return false;
         }
-        at = at + ROW_BYTES;
+        end = at;
+        rest = rest - bit(p);
+    }
+    if !all_zero(&lists[..end]) {
+        return false;
     }
     all_zero(&left)
-}
-
-// The occupancy word of the lists.
-fn word_of(lists: &[u8; LIST_BYTES]) -> u32
-    ensures { λ r. ⌜ r ≡ occupancy (now (lists .entry)) ⌝ }
-{
-    let mut word: u32 = 0;
-    let mut level: u8 = 0;
-    while level < HIGHEST_PRIORITY {
-        level = level + 1;
-        if lists[row_start(level)] != 0 {
-            word = word + bit(level);
-        }
-    }
-    word
 }
 
 // Whether lists and word are sound for the places: thread i must stand once in the list of the priority places[i], and in
@@ -224,8 +214,5 @@ fn word_of(lists: &[u8; LIST_BYTES]) -> u32
 pub fn sound(lists: &[u8; LIST_BYTES], word: u32, places: [u8; THREADS]) -> bool
     ensures { λ r. ⌜ r ≡ soundLists (λ i. getD places i 0) word (now (lists .entry)) ⌝ }
 {
-    if !sound_rows(lists, places) {
-        return false;
-    }
-    word == word_of(lists)
+    sound_rows(lists, word, places)
 }

@@ -1,134 +1,139 @@
--- `ready::sound_rows` meets its contract: what is left, for the rows that are left, decides the whole.
-use Prim.Native.Nat.{ℕ, _+_, _-_, _*_, _≤_, _<_}
-use mathlib.Core.Path.{_≡_, sym, ap, ap₂, _∙_}
-use mathlib.Core.Bool.{Bool, true, false}
+-- `ready::sound_rows` meets its contract: what is left, for the lists that are left, decides the whole.
+use Prim.Native.Nat.{ℕ, suc, _+_, _-_, _^_, _≤_, _<_}
+use mathlib.Core.Path.{_≡_, refl, sym, ap, _∙_}
 use mathlib.Core.List.{List}
 use native.Mathlib.Omega.{arith}
-use lib.ListN.{length, take, drop, getD, length-drop}
-use lib.Seq.{length-take-le}
+use lib.ListN.{length, take, drop, length-take, length-drop}
+use lib.Pow.{pow-pos}
 use borrow.Author.Needs.{needs}
 use borrow.Author.Tests.{not-true, not-false}
-use Rattle.base.specs.Tests.{all, zeros}
-use Rattle.base.proofs.TestLaws.{false-true}
-use Rattle.ready.specs.Lists.{rowAt, members}
-use Rattle.ready.specs.Sound.{soundRows}
-use Rattle.ready.specs.Private.{struck, RowStruck}
-use Rattle.ready.proofs.Soundness.{rows-true, true-rows}
-use Rattle.ready.proofs.StrikeLaws.{From, rowTests, never-true, same-test, struck-length, from-tests, from-next, from-back, from-start, start-from, from-end, end-from}
+use Rattle.ready.proofs.PassLaws.{Passing, Next, pass-start, pass-next, pass-fails, pass-passes, last-fails, last-decides}
 use Rattle.ready.proofs.sound_rows.Statement.{statement}
 use Rattle.ready.proofs.sound_rows.Tie as tie
 
--- after p rows: the rows above are sound for the places that are left exactly where all rows are for all places
-record Passing (l left₀ left : List ℕ) (p at : ℕ) : Type 0 where
-  range : p ≤ 32
-  place : at ≡ p * 33
-  array : length left ≡ 32
-  to : From 0 l left₀ → From p l left
-  back : From p l left → From 0 l left₀
-
--- the part that is lent is the row
-part : (l : List ℕ) (p at : ℕ) → at ≡ p * 33 → take (at + 33 - at) (drop at l) ≡ rowAt (p + 1) l
-part l p at e =
-    let a : at + 33 - at ≡ 33 = omega arith in
-    let b : at ≡ (p + 1 - 1) * 33 = omega arith in
-    ap₂ (λ (n m : ℕ). take n (drop m l)) a b
-
--- one row: where it fails the whole does, and where it passes the next place is reached
-module _ (l left₀ left : List ℕ) (p at : ℕ) {row left′ : List ℕ} {r : Bool} (h : Passing l left₀ left p at) (hi : p < 32)
-    (e : row ≡ rowAt (p + 1) l) (s : RowStruck (p + 1) row left left′ r) where
-  test : r ≡ all (rowTests (p + 1) (rowAt (p + 1) l) left)
-  test = s .test ∙ ap (λ (t : List ℕ). all (rowTests (p + 1) t left)) e
-
-  fails : r ≡ false → false ≡ soundRows (λ i. getD left₀ i 0) l
-  fails z =
-      sym
-      (never-true _
-      (λ y. false-true (sym z ∙ test ∙ from-tests p l left hi (h .array) (h .to (from-start l left₀ (rows-true (λ i. getD left₀ i 0) l y))))))
-
-  passes : r ≡ true → Passing l left₀ left′ (p + 1) (at + 33)
-  passes z =
-      let n : left′ ≡ struck (members (rowAt (p + 1) l)) left = s .rest z ∙ ap (λ (t : List ℕ). struck (members t) left) e in
-      rw n
-      (record {
-        range = omega arith;
-        place = omega (arith, h .place);
-        array = struck-length (members (rowAt (p + 1) l)) left ∙ h .array;
-        to = λ f. from-next p l left hi (h .array) (h .to f);
-        back = λ f. h .back (from-back p l left hi (h .array) (sym test ∙ z) f);
-      })
-
--- after the last row
-ends : (l left₀ left : List ℕ) (p at : ℕ) → Passing l left₀ left p at → 32 ≤ p → all (zeros left) ≡ soundRows (λ i. getD left₀ i 0) l
-ends l left₀ left p at h g =
-    let e : p ≡ 32 = omega (arith, h .range) in
-    same-test _ _
-    (λ z. true-rows (λ i. getD left₀ i 0) l (start-from l left₀ (h .back (rw e (end-from l left (h .array) z)))))
-    (λ z. from-end l left (h .array) (rw e at (h .to (from-start l left₀ (rows-true (λ i. getD left₀ i 0) l z)))))
-
 abbrev Inv-loop : tie.InvT-loop
-Inv-loop lists left₀ p₀ at₀ left p at = Passing lists left₀ left p at
+Inv-loop lists word left₀ rest₀ end₀ left rest end = Passing word lists left₀ left rest end
 
 abbrev μ-loop : tie.MeasureT-loop
-μ-loop lists left₀ p₀ at₀ left p at = 32 - p
+μ-loop lists word left₀ rest₀ end₀ left rest end = rest
 
 loop-holds : tie.Need-loop-holds Inv-loop μ-loop
-loop-holds c = record { range = omega arith; place = omega arith; array = omega arith; to = λ h. h; back = λ h. h }
+loop-holds c = let a = c .before .args in pass-start (a .word) (a .lists .now) (a .places) _ (omega arith) (omega arith) (omega arith)
 
-add-p : tie.Need-add-p Inv-loop μ-loop
-add-p c = omega arith
+-- the list that is next
+upcoming : (c : tie.In-loop Inv-loop μ-loop) → Next (c .before .loop .rest) (c .before .loop .end)
+upcoming c =
+    let b = c .before in
+    let a = b .before .before .args in
+    pass-next (a .word) (a .lists .now) (a .places) (b .loop .left) (b .loop .rest) (b .loop .end) (b .loop .inv) (omega arith)
 
-add-strike-row : tie.Need-add-strike-row Inv-loop μ-loop
-add-strike-row c = omega arith
+-- where its row starts, and that the part is a row at least
+record Begins (p at end : ℕ) : Type 0 where
+  low : 1 ≤ p
+  high : p ≤ 32
+  row : at + 33 ≤ end
+  within : end ≤ 1056
+
+begins : (c : tie.After-row-start Inv-loop μ-loop) → Begins (c .before .highest .result) (c .row-start .result) (c .before .before .before .loop .end)
+begins c =
+    let x = upcoming (c .before .before) in
+    let p : c .before .highest .result ≡ suc (x .list) = c .before .highest .ensures ∙ x .highest in
+    let at = c .row-start .ensures in
+    record { low = omega arith; high = omega (arith, x .range); row = omega (arith, x .ends); within = omega (arith, x .ends, x .range) }
+
+highest-requires : tie.Need-highest-requires Inv-loop μ-loop
+highest-requires c κs = search needs
+
+row-start-requires : tie.Need-row-start-requires Inv-loop μ-loop
+row-start-requires c κs = let x = upcoming (c .before) in (omega (arith, c .highest .ensures, x .highest), omega (arith, c .highest .ensures, x .highest, x .range))
 
 sub-strike-row : tie.Need-sub-strike-row Inv-loop μ-loop
-sub-strike-row c = omega arith
+sub-strike-row c = omega (arith, begins c .row)
 
 part-strike-row-start : tie.Need-part-strike-row-start Inv-loop μ-loop
-part-strike-row-start c = omega arith
+part-strike-row-start c = omega (arith, begins c .row, begins c .within)
 
 part-strike-row-end : tie.Need-part-strike-row-end Inv-loop μ-loop
-part-strike-row-end c = omega arith
+part-strike-row-end c = omega (arith, begins c .row, begins c .within)
 
 strike-row-requires : tie.Need-strike-row-requires Inv-loop μ-loop
 strike-row-requires c κs =
-    let b = c .before .before .before in
+    let r = c .before .before in
+    let b = r .before .before .before in
     let l = b .before .before .args .lists .now in
-    let at = b .loop .at in
-    (omega arith, length-take-le (at + 33 - at) (drop at l) (simp length-drop (omega arith)) ∙ omega arith, b .loop .inv .array)
+    let at = r .row-start .result in
+    let g = begins r in
+    (g .low, omega (arith, g .row, g .within, length-take (b .loop .end - at) (drop at l), length-drop at l), b .loop .inv .array)
 
 returns : tie.Need-returns Inv-loop μ-loop
 returns c =
     let d = c .before in
-    let b = d .before .before .before .before in
-    let l = b .before .before .args .lists .now in
-    fails l (b .before .before .args .places) (b .loop .left) (b .loop .p) (b .loop .at) (b .loop .inv) (omega arith)
-    (part l (b .loop .p) (b .loop .at) (b .loop .inv .place)) (d .strike-row .ensures) (not-true _ (c .if1 .taken))
+    let r = d .before .before .before in
+    let b = r .before .before .before in
+    let a = b .before .before .args in
+    pass-fails (a .word) (a .lists .now) (a .places) (b .loop .left) (b .loop .rest) (b .loop .end) (r .before .highest .result) (r .row-start .result)
+    (omega arith) (b .loop .inv) (upcoming (r .before .before)) (r .before .highest .ensures) (r .row-start .ensures) refl (d .strike-row .ensures)
+    (not-true _ (c .if1 .taken))
 
-add-at : tie.Need-add-at Inv-loop μ-loop
-add-at c = omega arith
+bit-requires : tie.Need-bit-requires Inv-loop μ-loop
+bit-requires c κs = let g = begins (c .before .before .before .before) in (g .low, g .high)
+
+sub-rest : tie.Need-sub-rest Inv-loop μ-loop
+sub-rest c =
+    let r = c .before .before .before .before .before in
+    let x = upcoming (r .before .before) in
+    let k : r .before .highest .result - 1 ≡ x .list = omega (arith, r .before .highest .ensures, x .highest) in
+    omega (arith, c .bit .ensures, ap (λ (n : ℕ). 2 ^ n) k, x .low)
 
 loop-less : tie.Need-loop-less Inv-loop μ-loop
-loop-less c = omega arith
+loop-less c =
+    let p = c .before .before .before .before .before .before .highest .result in
+    omega (arith, c .bit .ensures, pow-pos (p - 1))
 
 loop-again : tie.Need-loop-again Inv-loop μ-loop
 loop-again c =
-    let d = c .before in
-    let b = d .before .before .before .before in
-    let l = b .before .before .args .lists .now in
-    passes l (b .before .before .args .places) (b .loop .left) (b .loop .p) (b .loop .at) (b .loop .inv) (omega arith)
-    (part l (b .loop .p) (b .loop .at) (b .loop .inv .place)) (d .strike-row .ensures) (not-false _ (c .if1 .left))
+    let d = c .before .before in
+    let r = d .before .before .before in
+    let b = r .before .before .before in
+    let a = b .before .before .args in
+    rw (c .bit .ensures)
+    (pass-passes (a .word) (a .lists .now) (a .places) (b .loop .left) (b .loop .rest) (b .loop .end) (r .before .highest .result) (r .row-start .result)
+    (omega arith) (b .loop .inv) (upcoming (r .before .before)) (r .before .highest .ensures) (r .row-start .ensures) refl (d .strike-row .ensures)
+    (not-false _ (c .before .if1 .left)))
 
 slice-aggregate-all-zero : tie.Need-slice-aggregate-all-zero Inv-loop μ-loop
-slice-aggregate-all-zero c = sym (c .before .before .loop .inv .array)
+slice-aggregate-all-zero c =
+    let b = c .before .before in
+    let l = b .before .before .args .lists .now in
+    let h = b .loop .inv in
+    omega (arith, length-take (b .loop .end) l, h .ends, h .range)
 
 all-zero-requires : tie.Need-all-zero-requires Inv-loop μ-loop
 all-zero-requires c κs = search needs
 
 returns-2 : tie.Need-returns-2 Inv-loop μ-loop
 returns-2 c =
-    let b = c .before .before .before in
+    let z = c .before in
+    let b = z .before .before .before in
     let a = b .before .before .args in
-    c .all-zero .ensures ∙ ends (a .lists .now) (a .places) (b .loop .left) (b .loop .p) (b .loop .at) (b .loop .inv) (omega arith)
+    last-fails (a .word) (a .lists .now) (a .places) (b .loop .left) (b .loop .rest) (b .loop .end) (omega arith) (b .loop .inv) (omega arith)
+    (sym (z .all-zero .ensures) ∙ not-true _ (c .if2 .taken))
+
+slice-aggregate-all-zero-2 : tie.Need-slice-aggregate-all-zero-2 Inv-loop μ-loop
+slice-aggregate-all-zero-2 c = sym (c .before .before .before .before .before .loop .inv .array)
+
+all-zero-requires-2 : tie.Need-all-zero-requires-2 Inv-loop μ-loop
+all-zero-requires-2 c κs = search needs
+
+returns-3 : tie.Need-returns-3 Inv-loop μ-loop
+returns-3 c =
+    let i = c .before .before in
+    let z = i .before in
+    let b = z .before .before .before in
+    let a = b .before .before .args in
+    c .all-zero2 .ensures
+    ∙ last-decides (a .word) (a .lists .now) (a .places) (b .loop .left) (b .loop .rest) (b .loop .end) (omega arith) (b .loop .inv) (omega arith)
+    (sym (z .all-zero .ensures) ∙ not-false _ (i .if2 .left))
 
 pub sound-rows-spec : {M : Type 1} → statement M
 sound-rows-spec =
@@ -137,16 +142,20 @@ sound-rows-spec =
     Inv-loop
     μ-loop
     loop-holds
-    add-p
-    add-strike-row
+    highest-requires
+    row-start-requires
     sub-strike-row
     part-strike-row-start
     part-strike-row-end
     strike-row-requires
     returns
-    add-at
+    bit-requires
+    sub-rest
     loop-less
     loop-again
     slice-aggregate-all-zero
     all-zero-requires
-    returns-2)
+    returns-2
+    slice-aggregate-all-zero-2
+    all-zero-requires-2
+    returns-3)

@@ -1,4 +1,4 @@
--- `ready::strike_row` meets its contract: the tests of the row, and then its threads, of which an empty list has none.
+-- `ready::strike_row` meets its contract: the tests of the part, and then its threads.
 use Prim.Native.Nat.{ℕ, zero, suc, _+_, _-_, _≤_, _<_}
 use mathlib.Core.Path.{_≡_, refl, sym, ap, _∙_}
 use mathlib.Core.Bool.{Bool, true}
@@ -16,42 +16,23 @@ use borrow.Author.Needs.{needs}
 use Rattle.ready.proofs.strike_row.Statement.{statement}
 use Rattle.ready.proofs.strike_row.Tie as tie
 
--- the parts that are tested are the row's own
-unused-part : (row : List ℕ) (n : ℕ) → n ≡ size row → take (length row - (n + 1)) (drop (n + 1) row) ≡ unused row
-unused-part row n e =
-    let k : 1 + size row ≡ n + 1 = omega arith in
-    take-all (length row - (n + 1)) (drop (n + 1) row) (simp length-drop (omega arith))
-    ∙ sym (drop-drop (size row) 1 row ∙ ap (λ (m : ℕ). drop m row) k)
+-- what is tested is the part's own
+unused-part : (part : List ℕ) (n : ℕ) → n ≡ size part → take (length part - (n + 1)) (drop (n + 1) part) ≡ unused part
+unused-part part n e =
+    let k : 1 + size part ≡ n + 1 = omega arith in
+    take-all (length part - (n + 1)) (drop (n + 1) part) (simp length-drop (omega arith))
+    ∙ sym (drop-drop (size part) 1 part ∙ ap (λ (m : ℕ). drop m part) k)
 
-members-part : (row : List ℕ) (n : ℕ) → n ≡ size row → take (n + 1 - 1) (drop 1 row) ≡ members row
-members-part row n e = let k : n + 1 - 1 ≡ size row = omega arith in ap (λ (m : ℕ). take m (drop 1 row)) k
+members-part : (part : List ℕ) (n : ℕ) → n ≡ size part → take (n + 1 - 1) (drop 1 part) ≡ members part
+members-part part n e = let k : n + 1 - 1 ≡ size part = omega arith in ap (λ (m : ℕ). take m (drop 1 part)) k
 
-tested : (p : ℕ) (row left : List ℕ) {left′ xs : List ℕ} {r : Bool} → size row ≤ 32 → all (zeros (unused row)) ≡ true → xs ≡ members row
-    → Struck p xs left left′ r → RowStruck p row left left′ r
+tested : (p : ℕ) (part left : List ℕ) {left′ xs : List ℕ} {r : Bool} → 1 ≤ size part → size part ≤ 32 → all (zeros (unused part)) ≡ true → xs ≡ members part
+    → Struck p xs left left′ r → RowStruck p part left left′ r
 unfolding all
-tested p row left {left′} {xs} {r} h e m s =
+tested p part left {left′} {xs} {r} g h e m s =
     record {
-      test = s .test ∙ ap (λ (t : List ℕ). strikes p t left) m ∙ sym (simp (le-leb (size row) 32 h, e, all-one));
+      test = s .test ∙ ap (λ (t : List ℕ). strikes p t left) m ∙ sym (simp (le-leb 1 (size part) g, le-leb (size part) 32 h, e, all-one));
       rest = λ y. s .rest y ∙ ap (λ (t : List ℕ). struck t left) m;
-    }
-
--- a row of length 0
-none : (n p : ℕ) (xs left : List ℕ) → n ≡ 0 → all (leb n 32 ∷ all (zeros (drop n xs)) ∷ strikes p (take n xs) left ∷ []) ≡ all (zeros xs)
-unfolding all strikes
-none zero p xs left e = all-one (all (zeros xs))
-none (suc n) p xs left e = absurd (omega arith)
-
-kept : (n : ℕ) (xs left : List ℕ) → n ≡ 0 → left ≡ struck (take n xs) left
-unfolding struck
-kept zero xs left e = refl
-kept (suc n) xs left e = absurd (omega arith)
-
-empty : (p : ℕ) (row left : List ℕ) {r : Bool} → size row ≡ 0 → r ≡ all (zeros (take (length row - 1) (drop 1 row))) → RowStruck p row left left r
-empty p row left e t =
-    let d : take (length row - 1) (drop 1 row) ≡ drop 1 row = take-all (length row - 1) (drop 1 row) (simp length-drop (omega arith)) in
-    record {
-      test = t ∙ ap (λ (xs : List ℕ). all (zeros xs)) d ∙ sym (none (size row) p (drop 1 row) left e);
-      rest = λ y. kept (size row) (drop 1 row) left e;
     }
 
 shared-slice-read-wide : tie.Need-shared-slice-read-wide
@@ -59,6 +40,23 @@ shared-slice-read-wide c = search needs
 
 wide-requires : tie.Need-wide-requires
 wide-requires c κs = search needs
+
+returns : tie.Need-returns
+returns c =
+    let w = c .before in
+    let part = w .before .before .before .args .part .now in
+    let h : size part < 1 = omega (arith, w .wide .ensures) in
+    record { test = sym (all-false _ 0 (lt-leb _ _ h)); rest = λ e. false-true e }
+
+returns-2 : tie.Need-returns-2
+returns-2 c =
+    let w = c .before .before in
+    let part = w .before .before .before .args .part .now in
+    let h : 32 < size part = omega (arith, w .wide .ensures) in
+    record { test = sym (all-false _ 1 (lt-leb _ _ h)); rest = λ e. false-true e }
+
+add-all-zero : tie.Need-add-all-zero
+add-all-zero c = search needs
 
 sub-all-zero : tie.Need-sub-all-zero
 sub-all-zero c = search needs
@@ -72,42 +70,12 @@ part-all-zero-end c = search needs
 all-zero-requires : tie.Need-all-zero-requires
 all-zero-requires c κs = search needs
 
-returns : tie.Need-returns
-returns c =
-    let w = c .before .before .before in
-    let a = w .before .before .before .args in
-    let z : size (a .row .now) ≡ 0 = omega (arith, w .wide .ensures, c .before .before .if1 .taken) in
-    empty (a .p) (a .row .now) (a .left .now) z (c .all-zero .ensures)
-
-returns-2 : tie.Need-returns-2
-returns-2 c =
-    let w = c .before .before in
-    let row = w .before .before .before .args .row .now in
-    let h : 32 < size row = omega (arith, w .wide .ensures) in
-    record { test = sym (all-false _ 0 (lt-leb _ _ h)); rest = λ e. false-true e }
-
-add-all-zero : tie.Need-add-all-zero
-add-all-zero c = search needs
-
-sub-all-zero-2 : tie.Need-sub-all-zero-2
-sub-all-zero-2 c = search needs
-
-part-all-zero-start-2 : tie.Need-part-all-zero-start-2
-part-all-zero-start-2 c = search needs
-
-part-all-zero-end-2 : tie.Need-part-all-zero-end-2
-part-all-zero-end-2 c = search needs
-
-all-zero-requires-2 : tie.Need-all-zero-requires-2
-all-zero-requires-2 c κs = search needs
-
 returns-3 : tie.Need-returns-3
 returns-3 c =
-    let b = c .before .before .before .before .before in
-    let a = b .before .before .before in
-    let u = unused-part (a .args .row .now) (b .wide .result) (b .wide .ensures) in
-    let z = c .before .all-zero2 .ensures ∙ ap (λ (t : List ℕ). all (zeros t)) u in
-    record { test = sym (all-false _ 1 (sym z ∙ not-true _ (c .if3 .taken))); rest = λ e. false-true e }
+    let w = c .before .before .before .before .before in
+    let u = unused-part (w .before .before .before .args .part .now) (w .wide .result) (w .wide .ensures) in
+    let z = c .before .all-zero .ensures ∙ ap (λ (t : List ℕ). all (zeros t)) u in
+    record { test = sym (all-false _ 2 (sym z ∙ not-true _ (c .if3 .taken))); rest = λ e. false-true e }
 
 add-strike : tie.Need-add-strike
 add-strike c = search needs
@@ -130,12 +98,13 @@ returns-4 c =
     let b = z .before .before .before .before in
     let w = b .wide in
     let a = b .before .before .before .args in
-    let u = unused-part (a .row .now) (w .result) (w .ensures) in
-    let m = members-part (a .row .now) (w .result) (w .ensures) in
-    let h : size (a .row .now) ≤ 32 = rw (w .ensures) at (z .before .before .if2 .left) in
-    let e : all (zeros (unused (a .row .now))) ≡ true =
-    sym (z .all-zero2 .ensures ∙ ap (λ (t : List ℕ). all (zeros t)) u) ∙ not-false _ (c .before .before .before .if3 .left) in
-    tested (a .p) (a .row .now) (a .left .now) h e m (c .strike .ensures)
+    let u = unused-part (a .part .now) (w .result) (w .ensures) in
+    let m = members-part (a .part .now) (w .result) (w .ensures) in
+    let g : 1 ≤ size (a .part .now) = rw (w .ensures) at (z .before .before .before .if1 .left) in
+    let h : size (a .part .now) ≤ 32 = rw (w .ensures) at (z .before .before .if2 .left) in
+    let e : all (zeros (unused (a .part .now))) ≡ true =
+    sym (z .all-zero .ensures ∙ ap (λ (t : List ℕ). all (zeros t)) u) ∙ not-false _ (c .before .before .before .if3 .left) in
+    tested (a .p) (a .part .now) (a .left .now) g h e m (c .strike .ensures)
 
 pub strike-row-spec : {M : Type 1} → statement M
 strike-row-spec =
@@ -143,17 +112,13 @@ strike-row-spec =
     (tie.spec
     shared-slice-read-wide
     wide-requires
+    returns
+    returns-2
+    add-all-zero
     sub-all-zero
     part-all-zero-start
     part-all-zero-end
     all-zero-requires
-    returns
-    returns-2
-    add-all-zero
-    sub-all-zero-2
-    part-all-zero-start-2
-    part-all-zero-end-2
-    all-zero-requires-2
     returns-3
     add-strike
     sub-strike
