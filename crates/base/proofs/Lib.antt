@@ -2,3 +2,4 @@
 pub mod PartLaws
 pub mod RefusalLaws
 pub mod TestLaws
+pub mod ZeroLaws

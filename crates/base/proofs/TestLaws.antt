@@ -119,3 +119,12 @@ cond-false false x y e = refl
 pub cond-never : (b : Bool) → cond b false false ≡ false
 cond-never true = refl
 cond-never false = refl
+
+-- a test that cannot be true, and two that are true together
+pub never-true : (b : Bool) → (b ≡ true → ⊥) → b ≡ false
+never-true true h = absurd (h refl)
+never-true false h = refl
+
+pub same-test : (a b : Bool) → (a ≡ true → b ≡ true) → (b ≡ true → a ≡ true) → a ≡ b
+same-test true b f g = sym (f refl)
+same-test false b f g = sym (never-true b (λ e. false-true (g e)))

@@ -7,60 +7,42 @@ use native.Mathlib.Omega.{arith}
 use native.Mathlib.Nat.{pow-le-pow-right, pow-suc}
 use native.Mathlib.Decide.{ℕ-discrete}
 use lib.Count.{leadingZeros, leading-top}
-use lib.Pow.{pow-pos}
 use lib.ListN.{length, take, drop, getD, length-take, length-drop, List·getD-append, List·getD-eq-default}
-use lib.Seq.{getD-take, getD-drop, take-add}
+use lib.Seq.{getD-drop, take-add}
 use lib.Dec.{ltb, leb, eqb}
-use borrow.Author.Tests.{eq-eqb, ne-eqb, leb-true, le-leb}
+use borrow.Author.Tests.{ne-eqb, leb-true, le-leb}
 use Rattle.base.specs.Tests.{all, zeros}
-use Rattle.base.proofs.TestLaws.{tests, All, all-true, true-all, false-true}
+use Rattle.base.proofs.TestLaws.{tests, All, all-true, true-all, false-true, never-true, same-test}
+use Rattle.base.proofs.ZeroLaws.{Clear, part-at, part-clear, clear-part, zeros-at, at-zeros}
 use Rattle.ready.specs.Lists.{start, rowAt, size, members, unused, occurs}
 use Rattle.ready.specs.Word.{wordOf, sizeAt, occupancy, highestOf}
 use Rattle.ready.specs.Sound.{small, soundLists}
 use Rattle.ready.specs.Private.{strikes, struck, RowStruck}
 use Rattle.ready.proofs.RowLaws.{within, size-read, row-length}
 use Rattle.ready.proofs.WordLaws.{word-lt, word-step, word-skip}
-use Rattle.ready.proofs.Soundness.{mark, mark-same, mark-other, mark-is, RowSound, row-same, ListsSound, sound-true, true-sound}
-use Rattle.ready.proofs.StrikeLaws.{never-true, same-test, struck-length, strikes-count, count-strikes, small-none, none-small, zeros-at, at-zeros, After, after}
+use Rattle.ready.proofs.Soundness.{mark, mark-same, mark-other, mark-is, RowSound, row-same, sound-true, true-sound}
+use Rattle.ready.proofs.StrikeLaws.{struck-length, strikes-count, count-strikes, small-none, none-small, After, after}
 
 -- ---- runs of zeros
 
--- the places from a on before b hold 0
-abbrev pub Clear : ℕ → ℕ → List ℕ → Type 0
-Clear a b l = (j : ℕ) → a ≤ j → j < b → getD l j 0 ≡ 0
+-- of a part, what stands behind its first number and s more
+module _ (a n : ℕ) (l : List ℕ) (s : ℕ) where
+  tail-at : (j : ℕ) → 1 + (s + j) < n → getD (drop s (drop 1 (take n (drop a l)))) j 0 ≡ getD l (a + (1 + (s + j))) 0
+  tail-at j h = getD-drop s (drop 1 (take n (drop a l))) j 0 ∙ getD-drop 1 (take n (drop a l)) (s + j) 0 ∙ part-at a n l (1 + (s + j)) h
 
-module _ (a n : ℕ) (l : List ℕ) where
-  part-at : (j : ℕ) → j < n → getD (take n (drop a l)) j 0 ≡ getD l (a + j) 0
-  part-at j h = getD-take n (drop a l) j 0 h ∙ getD-drop a l j 0
+  tail-clear : All (zeros (drop s (drop 1 (take n (drop a l))))) → Clear (a + 1 + s) (a + n) l
+  tail-clear h j lo hi =
+      let k = j - (a + 1 + s) in
+      let e : a + (1 + (s + k)) ≡ j = omega arith in
+      ap (λ (k : ℕ). getD l k 0) (sym e) ∙ sym (tail-at k (omega arith)) ∙ zeros-at (drop s (drop 1 (take n (drop a l)))) h k
 
-  pub part-clear : All (zeros (take n (drop a l))) → Clear a (a + n) l
-  part-clear h j lo hi =
-      let e : a + (j - a) ≡ j = omega arith in
-      ap (λ (k : ℕ). getD l k 0) (sym e) ∙ sym (part-at (j - a) (omega arith)) ∙ zeros-at (take n (drop a l)) h (j - a)
-
-  pub clear-part : Clear a (a + n) l → All (zeros (take n (drop a l)))
-  clear-part h =
-      at-zeros (take n (drop a l))
-      (λ j m. let q : j < n = omega (arith, length-take n (drop a l)) in part-at j q ∙ h (a + j) (omega arith) (omega arith))
-
-  -- of a part, what stands behind its first number and s more
-  module _ (s : ℕ) where
-    tail-at : (j : ℕ) → 1 + (s + j) < n → getD (drop s (drop 1 (take n (drop a l)))) j 0 ≡ getD l (a + (1 + (s + j))) 0
-    tail-at j h = getD-drop s (drop 1 (take n (drop a l))) j 0 ∙ getD-drop 1 (take n (drop a l)) (s + j) 0 ∙ part-at (1 + (s + j)) h
-
-    tail-clear : All (zeros (drop s (drop 1 (take n (drop a l))))) → Clear (a + 1 + s) (a + n) l
-    tail-clear h j lo hi =
-        let k = j - (a + 1 + s) in
-        let e : a + (1 + (s + k)) ≡ j = omega arith in
-        ap (λ (k : ℕ). getD l k 0) (sym e) ∙ sym (tail-at k (omega arith)) ∙ zeros-at (drop s (drop 1 (take n (drop a l)))) h k
-
-    clear-tail : Clear (a + 1 + s) (a + n) l → All (zeros (drop s (drop 1 (take n (drop a l)))))
-    clear-tail h =
-        at-zeros (drop s (drop 1 (take n (drop a l))))
-        (λ j m.
-        let q : 1 + (s + j) < n =
-        omega (arith, length-drop s (drop 1 (take n (drop a l))), length-drop 1 (take n (drop a l)), length-take n (drop a l)) in
-        tail-at j q ∙ h (a + (1 + (s + j))) (omega arith) (omega arith))
+  clear-tail : Clear (a + 1 + s) (a + n) l → All (zeros (drop s (drop 1 (take n (drop a l)))))
+  clear-tail h =
+      at-zeros (drop s (drop 1 (take n (drop a l))))
+      (λ j m.
+      let q : 1 + (s + j) < n =
+      omega (arith, length-drop s (drop 1 (take n (drop a l))), length-drop 1 (take n (drop a l)), length-take n (drop a l)) in
+      tail-at j q ∙ h (a + (1 + (s + j))) (omega arith) (omega arith))
 
 -- ---- the lists that are left
 

@@ -1,33 +1,19 @@
 -- One step of each loop of the private functions.
-use mathlib.Core.Path.{_≡_, refl, sym, ap, _∙_}
-use mathlib.Core.Bool.{Bool, true, false, cond}
+use mathlib.Core.Path.{_≡_, sym, ap, _∙_}
+use mathlib.Core.Bool.{false, cond}
 use mathlib.Core.List.{List, _∷_, _++_, append-assoc, append-nil}
 use Prim.Native.Nat.{ℕ, suc, _+_, _-_, _≤_, _<_}
 use native.Mathlib.Nat.{add-zero}
 use native.Mathlib.Numerals.{add-one}
 use native.Mathlib.Omega.{arith}
-use native.Mathlib.Decide.{ℕ-discrete}
-use lib.Bits.{bitOr, or-add-and, and-le-l, and-le-r}
+use lib.Bits.{bitOr}
 use lib.Dec.{eqb}
 use lib.ListN.{length, set, take, drop, getD, length-append, length-take, length-drop, take-append-drop}
 use lib.Seq.{drop-cons, take-suc, set-at, getD-append-add, getD-drop}
 use borrow.Author.Tests.{eq-eqb, ne-eqb}
 use Rattle.base.specs.Tests.{all, zeros}
+use Rattle.base.proofs.ZeroLaws.{or-none, cond-both}
 use Rattle.ready.specs.Private.{indexOf, closed, strikes, struck}
-
--- ---- two numbers together have no bit exactly where each is 0
-
-or-none : (a b : ℕ) → eqb (bitOr a b) 0 ≡ cond (eqb a 0) (eqb b 0) false
-or-none a b = go (ℕ-discrete a 0) (ℕ-discrete b 0)
-  where
-    go : Dec (a ≡ 0) → Dec (b ≡ 0) → eqb (bitOr a b) 0 ≡ cond (eqb a 0) (eqb b 0) false
-    go (yes e) (yes f) = rw (eq-eqb a 0 e, eq-eqb b 0 f) (eq-eqb (bitOr a b) 0 (omega (arith, or-add-and a b)))
-    go (yes e) (no f) = rw (eq-eqb a 0 e, ne-eqb b 0 f) (ne-eqb (bitOr a b) 0 (λ z. f (omega (arith, or-add-and a b, and-le-l a b))))
-    go (no e) f = rw (ne-eqb a 0 e) (ne-eqb (bitOr a b) 0 (λ z. e (omega (arith, or-add-and a b, and-le-r a b))))
-
-both : (a b c : Bool) → cond (cond a b false) c false ≡ cond a (cond b c false) false
-both true b c = refl
-both false b c = refl
 
 -- ---- from place j of a list on
 
@@ -49,7 +35,7 @@ module _ (xs : List ℕ) (j : ℕ) (h : j < length xs) where
   -- the bits of one number more
   pub zeros-next : (bits : ℕ) → cond (eqb (bitOr bits here) 0) (all (zeros (drop (j + 1) xs))) false ≡ cond (eqb bits 0) (all (zeros (drop j xs))) false
   unfolding all
-  zeros-next bits = rw (rest, or-none bits here) (both (eqb bits 0) (eqb here 0) (all (zeros (drop (j + 1) xs))))
+  zeros-next bits = rw (rest, or-none bits here) (cond-both (eqb bits 0) (eqb here 0) (all (zeros (drop (j + 1) xs))))
 
   pub strikes-here : (p : ℕ) (left : List ℕ) → (getD left here 0 ≡ p → ⊥) → strikes p (drop j xs) left ≡ false
   unfolding strikes

@@ -1,30 +1,19 @@
 -- One pass that strikes each thread off its place decides what the definition counts for every thread and list.
-use mathlib.Core.Path.{_≡_, refl, sym, ap, _∙_}
+use mathlib.Core.Path.{_≡_, refl, sym, _∙_}
 use mathlib.Core.Bool.{Bool, true, false, cond}
 use mathlib.Core.List.{List, [], _∷_}
 use Prim.Native.Nat.{ℕ, zero, suc, _+_, _≤_, _<_}
 use native.Mathlib.Omega.{arith}
 use native.Mathlib.Decide.{ℕ-discrete}
-use lib.ListN.{length, set, getD, length-set, List·getD-eq-default}
+use lib.ListN.{length, set, getD, length-set}
 use lib.Seq.{getD-set-other}
-use lib.Dec.{ltb, leb, eqb}
-use borrow.Author.Tests.{eq-eqb, ne-eqb, eqb-true, leb-true, le-leb, lt-ltb}
-use Rattle.base.specs.Tests.{all, zeros}
-use Rattle.base.proofs.TestLaws.{tests, All, all-true, true-all, false-true}
-use Rattle.ready.specs.Lists.{rowAt, size, members, unused, occurs}
+use lib.Dec.{eqb}
+use borrow.Author.Tests.{eq-eqb, ne-eqb, eqb-true, lt-ltb}
+use Rattle.base.proofs.TestLaws.{tests, All, false-true}
+use Rattle.ready.specs.Lists.{occurs}
 use Rattle.ready.specs.Sound.{small}
 use Rattle.ready.specs.Private.{strikes, struck}
-use Rattle.ready.proofs.Soundness.{mark, mark-same, mark-other, mark-is, RowSound, RowsSound, row-same}
-
--- ---- tests
-
-pub never-true : (b : Bool) → (b ≡ true → ⊥) → b ≡ false
-never-true true h = absurd (h refl)
-never-true false h = refl
-
-pub same-test : (a b : Bool) → (a ≡ true → b ≡ true) → (b ≡ true → a ≡ true) → a ≡ b
-same-test true b f g = sym (f refl)
-same-test false b f g = sym (never-true b (λ e. false-true (g e)))
+use Rattle.ready.proofs.Soundness.{mark, mark-same, mark-other, mark-is}
 
 -- ---- striking off
 
@@ -102,17 +91,6 @@ unfolding occurs
 none-small [] f = tt
 none-small (x ∷ xs) f =
     (lt-ltb x 32 (f x (rw (eq-eqb x x refl) (omega arith))), none-small xs (λ i h. f i (omega arith)))
-
--- ---- zeros by place
-
-pub zeros-at : (xs : List ℕ) → All (zeros xs) → (i : ℕ) → getD xs i 0 ≡ 0
-zeros-at [] h i = refl
-zeros-at (x ∷ xs) h zero = eqb-true x 0 (h .0)
-zeros-at (x ∷ xs) h (suc i) = zeros-at xs (h .1) i
-
-pub at-zeros : (xs : List ℕ) → ((i : ℕ) → i < length xs → getD xs i 0 ≡ 0) → All (zeros xs)
-at-zeros [] h = tt
-at-zeros (x ∷ xs) h = (eq-eqb x 0 (h zero (omega arith)), at-zeros xs (λ i l. h (suc i) (omega arith)))
 
 -- ---- a place after list p
 

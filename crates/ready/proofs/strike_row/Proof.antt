@@ -1,11 +1,10 @@
 -- `ready::strike_row` meets its contract: the tests of the part, and then its threads.
-use Prim.Native.Nat.{ℕ, zero, suc, _+_, _-_, _≤_, _<_}
-use mathlib.Core.Path.{_≡_, refl, sym, ap, _∙_}
+use Prim.Native.Nat.{ℕ, _+_, _-_, _≤_, _<_}
+use mathlib.Core.Path.{_≡_, sym, ap, _∙_}
 use mathlib.Core.Bool.{Bool, true}
-use mathlib.Core.List.{List, [], _∷_}
+use mathlib.Core.List.{List}
 use native.Mathlib.Omega.{arith}
 use lib.ListN.{length, take, drop, length-drop}
-use lib.Dec.{leb}
 use lib.Seq.{take-all, drop-drop}
 use borrow.Author.Tests.{lt-leb, le-leb, not-true, not-false}
 use Rattle.base.specs.Tests.{all, zeros}
