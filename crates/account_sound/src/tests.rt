@@ -2,10 +2,8 @@
 ghost use mathlib.Core.Path.{_≡_};
 ghost use Prim.Native.Nat.{_+_, _≤_};
 ghost use mathlib.Core.Bool.{cond};
-ghost use lib.ListN.{take};
 ghost use Rattle.base.specs.Tests.{all};
-ghost use Rattle.account.specs.Account.{entries};
-ghost use Rattle.account.specs.Sound.{numberTests, amountTests, dueTests, slotTests};
+ghost use Rattle.account.specs.Sound.{numberTests, amountTests, dueTests};
 use account::ENTRIES;
 use records::Parameters;
 use sporadic::Server;
@@ -52,16 +50,9 @@ pub(super) fn numbers_hold(
     s.used <= now - s.activation
 }
 
-// The n amounts are at least 1, and with capacity and U they make the budget.
-pub(super) fn amounts_hold(
-    budget: u64,
-    capacity: u64,
-    used: u64,
-    amounts: [u64; ENTRIES],
-    n: usize,
-) -> bool
-    requires { ⌜ n ≤ entries ⌝ }
-    ensures { λ r. ⌜ r ≡ all (amountTests budget (capacity + used) (take n amounts)) ⌝ }
+// The amounts are at least 1, and with capacity and U they make the budget.
+pub(super) fn amounts_hold(budget: u64, capacity: u64, used: u64, amounts: &[u64]) -> bool
+    ensures { λ r. ⌜ r ≡ all (amountTests budget (capacity + used) (now (amounts .entry))) ⌝ }
 {
     if budget < capacity {
         return false;
@@ -71,7 +62,7 @@ pub(super) fn amounts_hold(
     }
     let mut left = budget - capacity - used;
     let mut i: usize = 0;
-    while i < n {
+    while i < amounts.len() {
         let x = amounts[i];
         i = i + 1;
         if x < 1 {
@@ -85,14 +76,14 @@ pub(super) fn amounts_hold(
     left == 0
 }
 
-// The n dues strictly rise, the first after `after`, and are less than `period` after `base`.
-pub(super) fn dues_hold(dues: [u64; ENTRIES], n: usize, after: u64, base: u64, period: u64) -> bool
-    requires { ⌜ (n ≤ entries) × (base ≤ after) ⌝ }
-    ensures { λ r. ⌜ r ≡ all (dueTests after (base + period) (take n dues)) ⌝ }
+// The dues strictly rise, the first after `after`, and are less than `period` after `base`.
+pub(super) fn dues_hold(dues: &[u64], after: u64, base: u64, period: u64) -> bool
+    requires { ⌜ base ≤ after ⌝ }
+    ensures { λ r. ⌜ r ≡ all (dueTests after (base + period) (now (dues .entry))) ⌝ }
 {
     let mut last = after;
     let mut i: usize = 0;
-    while i < n {
+    while i < dues.len() {
         let d = dues[i];
         i = i + 1;
         if d <= last {
@@ -102,21 +93,6 @@ pub(super) fn dues_hold(dues: [u64; ENTRIES], n: usize, after: u64, base: u64, p
             return false;
         }
         last = d;
-    }
-    true
-}
-
-// The slots from n on hold 0.
-pub(super) fn slots_hold(xs: [u64; ENTRIES], n: usize) -> bool
-    ensures { λ r. ⌜ r ≡ all (slotTests n xs) ⌝ }
-{
-    let mut i = n;
-    while i < ENTRIES {
-        let x = xs[i];
-        i = i + 1;
-        if x != 0 {
-            return false;
-        }
     }
     true
 }

@@ -7,7 +7,7 @@ use native.Mathlib.Omega.{arith}
 use native.Mathlib.Decide.{ℕ-discrete}
 use lib.Bits.{bitOr, or-add-and, and-le-l, and-le-r}
 use lib.Dec.{eqb}
-use lib.ListN.{length, take, drop, getD, length-take}
+use lib.ListN.{length, take, drop, getD, length-take, length-drop}
 use lib.Seq.{getD-take, getD-drop}
 use borrow.Author.Tests.{eq-eqb, ne-eqb, eqb-true}
 use Rattle.base.specs.Tests.{zeros}
@@ -54,3 +54,13 @@ module _ (a n : ℕ) (l : List ℕ) where
   clear-part h =
       at-zeros (take n (drop a l))
       (λ j m. let q : j < n = omega (arith, length-take n (drop a l)) in part-at j q ∙ h (a + j) (omega arith) (omega arith))
+
+-- all from place a on
+module _ (a : ℕ) (l : List ℕ) where
+  pub drop-clear : All (zeros (drop a l)) → Clear a (length l) l
+  drop-clear h j lo hi =
+      let e : a + (j - a) ≡ j = omega arith in
+      ap (λ (k : ℕ). getD l k 0) (sym e) ∙ sym (getD-drop a l (j - a) 0) ∙ zeros-at (drop a l) h (j - a)
+
+  pub clear-drop : Clear a (length l) l → All (zeros (drop a l))
+  clear-drop h = at-zeros (drop a l) (λ j m. getD-drop a l j 0 ∙ h (a + j) (omega arith) (omega (arith, length-drop a l)))

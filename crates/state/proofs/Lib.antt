@@ -2,3 +2,4 @@
 pub mod SoundLaws
 pub mod TestLaws
 pub mod ThreadLaws
+pub mod AbsentLaws

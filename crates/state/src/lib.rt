@@ -75,13 +75,24 @@ pub fn sound_parts<'a>(
         return false;
     }
     let n = header.n as usize;
+    // two loops: to hand the threads to another function would copy them
+    let mut k = n;
+    while k < THREADS {
+        let t = threads[k];
+        if !tests::no_thread(t, counts[k]) {
+            return false;
+        }
+        k = k + 1;
+    }
+    if !tests::no_slots(n, dues, amounts) {
+        return false;
+    }
     let mut left = time - header.start;
     let mut places = [0u8; THREADS];
     let mut i: usize = 0;
-    while i < THREADS {
+    while i < n {
         let t = threads[i];
-        let present = i < n;
-        if !tests::thread_holds(present, header.start, time, t, counts, dues, amounts, i) {
+        if !tests::thread_holds(header.start, time, t, counts, dues, amounts, i) {
             return false;
         }
         if left < t.total {

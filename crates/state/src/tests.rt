@@ -1,41 +1,21 @@
 // What soundness asks of one thread, for any contents.
 ghost use mathlib.Core.Path.{_≡_};
-ghost use mathlib.Core.Bool.{cond};
-ghost use Prim.Native.Nat.{_<_};
-ghost use lib.ListN.{length};
+ghost use mathlib.Core.List.{[], _∷_, _++_};
+ghost use lib.Dec.{eqb};
+ghost use Prim.Native.Nat.{_*_, _≤_, _<_};
+ghost use lib.ListN.{length, drop};
 ghost use Rattle.base.specs.Tests.{all, zeros};
 ghost use Rattle.records.specs.Ranges.{mostThreads};
-ghost use Rattle.rows.specs.Rows.{allSlots, slotsAt, pendingOf};
-ghost use Rattle.state.specs.Sound.{serverTests, leftTests, presentFields, absentFields, presenceTest};
-use account::Account;
+ghost use Rattle.account.specs.Account.{entries};
+ghost use Rattle.rows.specs.Rows.{allSlots, pendingOf};
+ghost use Rattle.state.specs.Sound.{serverTests, leftTests, presentFields, absentFields, presentTest};
 use account::ENTRIES;
 use records::THREADS;
-use rows::SLOTS;
 use sporadic::Server;
 use thread::Thread;
 
 // The largest max_repl.
 const MOST_REPL: u8 = ENTRIES as u8;
-
-// Whether thread i's slots hold 0.
-fn row_zero(xs: &[u64; SLOTS], i: usize) -> bool
-    requires { ⌜ (i < mostThreads) × (length (now xs) ≡ allSlots) ⌝ }
-    ensures { λ r. ⌜ r ≡ all (zeros (slotsAt i (now (xs .entry)))) ⌝ }
-{
-    // to the end in any case: a loop that may return early is compiled number by number
-    let from = i * ENTRIES;
-    let mut clean = true;
-    let mut j: usize = 0;
-    while j < ENTRIES {
-        let x = xs[from + j];
-        j = j + 1;
-        if x != 0 {
-            clean = false;
-            continue;
-        }
-    }
-    clean
-}
 
 // Whether capacity, U and activation time are 0.
 fn no_server(s: Server) -> bool
@@ -97,41 +77,60 @@ fn absent_fields(t: Thread) -> bool
     t.left == 0
 }
 
-// The same of any thread number: below N (`present`), or not.
-fn fields_hold(present: bool, t: Thread) -> bool
-    ensures { λ r. ⌜ r ≡ all (cond present (presentFields t) (absentFields t)) ⌝ }
+// Whether a place from N on holds no thread; its slots are asked apart.
+pub(super) fn no_thread(t: Thread, count: u8) -> bool
+    ensures { λ r. ⌜ r ≡ all (absentFields t ++ (serverTests (t .server) ++ (eqb count 0 ∷ []))) ⌝ }
 {
-    if present {
-        return present_fields(t);
+    if !absent_fields(t) {
+        return false;
     }
-    absent_fields(t)
+    let s = t.server;
+    if !no_server(s) {
+        return false;
+    }
+    count == 0
 }
 
-// Whether thread i is sound, or is none where i is not below N. Where it is none its policy is 0, so that it has no account.
+// Whether no slot from thread n on holds a number.
+pub(super) fn no_slots<'a>(n: usize, dues: &'a [u64], amounts: &'a [u64]) -> bool
+    requires { ⌜ (n ≤ mostThreads) × (length (now dues) ≡ allSlots) × (length (now amounts) ≡ allSlots) ⌝ }
+    ensures { λ r. ⌜ r ≡ all (all (zeros (drop (n * entries) (now (dues .entry)))) ∷ all (zeros (drop (n * entries) (now (amounts .entry)))) ∷ []) ⌝ }
+{
+    let from = n * ENTRIES;
+    account_sound::clear(&dues[from..], &amounts[from..])
+}
+
+// Whether thread i, below N, is sound.
 pub(super) fn thread_holds<'a>(
-    present: bool,
     start: u64,
     time: u64,
     t: Thread,
     counts: &'a [u8; THREADS],
-    dues: &'a [u64; SLOTS],
-    amounts: &'a [u64; SLOTS],
+    dues: &'a [u64],
+    amounts: &'a [u64],
     i: usize,
 ) -> bool
     requires { ⌜ (i < mostThreads) × (length (now dues) ≡ allSlots) × (length (now amounts) ≡ allSlots) ⌝ }
-    ensures { λ r. ⌜ r ≡ presenceTest present start time t (pendingOf (now (counts .entry)) (now (dues .entry)) (now (amounts .entry)) i) ⌝ }
+    ensures { λ r. ⌜ r ≡ presentTest start time t (pendingOf (now (counts .entry)) (now (dues .entry)) (now (amounts .entry)) i) ⌝ }
 {
-    if !fields_hold(present, t) {
+    if !present_fields(t) {
         return false;
     }
     let p = t.parameters;
     let s = t.server;
+    let from = i * ENTRIES;
+    let end = from + ENTRIES;
     if 1 < p.policy {
-        let a = Account {
-            server: s,
-            pending: rows::pending_at(counts, dues, amounts, i),
-        };
-        return account_sound::sound(p, a, 0 < t.blocked, start, time);
+        return account_sound::sound_lent(
+            p,
+            s,
+            counts[i],
+            &dues[from..end],
+            &amounts[from..end],
+            0 < t.blocked,
+            start,
+            time,
+        );
     }
     if !no_server(s) {
         return false;
@@ -139,8 +138,5 @@ pub(super) fn thread_holds<'a>(
     if counts[i] != 0 {
         return false;
     }
-    if !row_zero(dues, i) {
-        return false;
-    }
-    row_zero(amounts, i)
+    account_sound::clear(&dues[from..end], &amounts[from..end])
 }

@@ -2,60 +2,60 @@
 use Prim.Native.Nat.{ℕ, _+_, _-_, _≤_}
 use mathlib.Core.Path.{_≡_, refl, sym, ap, _∙_}
 use mathlib.Core.List.{List}
-use lib.ListN.{take, drop}
+use lib.ListN.{length, drop, drop-of-length-le}
 use native.Mathlib.Omega.{arith}
 use Rattle.base.specs.Tests.{all}
 use Rattle.account.specs.Sound.{dueTests}
-use Rattle.account_sound.proofs.ScanLaws.{no-place, due-step, due-early, due-late}
+use Rattle.account_sound.proofs.ScanLaws.{due-step, due-early, due-late}
 use Rattle.account_sound.proofs.tests.dues_hold.Statement.{statement}
 use Rattle.account_sound.proofs.tests.dues_hold.Tie as tie
 
 abbrev Inv-loop : tie.InvT-loop
-Inv-loop n after base period dues last₀ i₀ last i =
-    (i ≤ n)
+Inv-loop dues after base period last₀ i₀ last i =
+    (i ≤ length dues)
     × (base ≤ last)
-    × (all (dueTests last (base + period) (drop i (take n dues))) ≡ all (dueTests after (base + period) (take n dues)))
+    × (all (dueTests last (base + period) (drop i dues)) ≡ all (dueTests after (base + period) dues))
 
 abbrev μ-loop : tie.MeasureT-loop
-μ-loop n after base period dues last₀ i₀ last i = n - i
+μ-loop dues after base period last₀ i₀ last i = length dues - i
 
 loop-holds : tie.Need-loop-holds Inv-loop μ-loop
-loop-holds c = (omega arith, c .pre .1, refl)
+loop-holds c = (omega arith, c .pre, refl)
 
 mul-d : tie.Need-mul-d Inv-loop μ-loop
 mul-d c = omega arith
 
-array-read-d : tie.Need-array-read-d Inv-loop μ-loop
-array-read-d c = omega arith
+shared-slice-read-d : tie.Need-shared-slice-read-d Inv-loop μ-loop
+shared-slice-read-d c = omega arith
 
 add-i : tie.Need-add-i Inv-loop μ-loop
 add-i c = omega arith
 
 returns : tie.Need-returns Inv-loop μ-loop
 returns c =
-    let b = c .before .before in
+    let b = c .before .before .before in
     let a = b .before .args in
-    sym (due-early (a .n) (b .loop .i) (a .t1) (c .before .loop-test .taken) (omega arith) (b .loop .last) (a .base + a .period) (omega (arith, c .if1 .taken))) ∙ b .loop .inv .2
+    sym (due-early (b .loop .i) (a .dues .now) (omega arith) (b .loop .last) (a .base + a .period) (omega (arith, c .if1 .taken))) ∙ b .loop .inv .2
 
 sub-if2 : tie.Need-sub-if2 Inv-loop μ-loop
 sub-if2 c = omega arith
 
 returns-2 : tie.Need-returns-2 Inv-loop μ-loop
 returns-2 c =
-    let b = c .before .before .before in
+    let b = c .before .before .before .before in
     let a = b .before .args in
-    sym (due-late (a .n) (b .loop .i) (a .t1) (c .before .before .loop-test .taken) (omega arith) (b .loop .last) (a .base + a .period) (omega arith)) ∙ b .loop .inv .2
+    sym (due-late (b .loop .i) (a .dues .now) (omega arith) (b .loop .last) (a .base + a .period) (omega arith)) ∙ b .loop .inv .2
 
 loop-less : tie.Need-loop-less Inv-loop μ-loop
 loop-less c = omega arith
 
 loop-again : tie.Need-loop-again Inv-loop μ-loop
 loop-again c =
-    let b = c .before .before .before in
+    let b = c .before .before .before .before in
     let a = b .before .args in (
       omega arith,
       omega arith,
-      sym (due-step (a .n) (b .loop .i) (a .t1) (c .before .before .loop-test .taken) (omega arith) (b .loop .last) (a .base + a .period) (omega (arith, c .before .if1 .left)) (omega arith)) ∙ b .loop .inv .2,
+      sym (due-step (b .loop .i) (a .dues .now) (omega arith) (b .loop .last) (a .base + a .period) (omega (arith, c .before .if1 .left)) (omega arith)) ∙ b .loop .inv .2,
     )
 
 returns-3 : tie.Need-returns-3 Inv-loop μ-loop
@@ -63,7 +63,7 @@ unfolding all
 returns-3 c =
     let b = c .before in
     let a = b .before .args in
-    sym (ap (λ (ys : List ℕ). all (dueTests (b .loop .last) (a .base + a .period) ys)) (no-place (a .n) (b .loop .i) (a .t1) (c .loop-test .left) (omega arith))) ∙ b .loop .inv .2
+    sym (ap (λ (ys : List ℕ). all (dueTests (b .loop .last) (a .base + a .period) ys)) (drop-of-length-le (a .dues .now) {i = b .loop .i} (omega arith))) ∙ b .loop .inv .2
 
 pub dues-hold-spec : {M : Type 1} → statement M
 dues-hold-spec =
@@ -73,7 +73,7 @@ dues-hold-spec =
     μ-loop
     loop-holds
     mul-d
-    array-read-d
+    shared-slice-read-d
     add-i
     returns
     sub-if2

@@ -1,24 +1,30 @@
 -- `state::tests::thread_holds` meets its contract: the thread's fields, and then its account.
-use Prim.Native.Nat.{ℕ, _≤_, _<_}
+use Prim.Native.Nat.{ℕ, _+_, _-_, _*_, _≤_, _<_}
 use mathlib.Core.Bool.{Bool, true, false, cond}
-use mathlib.Core.Path.{_≡_, refl, sym, ap, _∙_}
-use mathlib.Core.List.{[], _∷_}
+use mathlib.Core.Path.{_≡_, sym, ap, ap₂, _∙_}
+use mathlib.Core.List.{List, [], _∷_}
 use native.Mathlib.Omega.{arith}
 use borrow.Author.Needs.{needs}
-use borrow.Author.Tests.{eqb-true, eq-eqb, ne-eqb}
-use Rattle.base.specs.Tests.{all}
-use Rattle.records.specs.Ranges.{byPolicy, allZero}
-use Rattle.base.proofs.TestLaws.{all-true, all-false, all-one, cond-true, cond-false}
+use borrow.Author.Tests.{eq-eqb, ne-eqb}
+use lib.ListN.{take, drop, getD}
+use lib.Dec.{eqb}
+use Rattle.base.specs.Tests.{all, zeros}
+use Rattle.base.proofs.TestLaws.{all-false, all-one, cond-true, cond-false}
 use Rattle.account.specs.declared.Pending.{Pending}
 use Rattle.account.specs.Sound.{soundAt}
-use Rattle.rows.specs.Rows.{pendingOf}
+use Rattle.account_sound.specs.Lent.{accountOf}
+use Rattle.rows.specs.Rows.{slotsAt, pendingOf}
 use Rattle.thread.specs.declared.Thread.{Thread}
 use Rattle.thread.specs.Thread.{isBlocked}
-use Rattle.state.specs.Sound.{serverTests, noAccountTests, accountTest, presentFields, absentFields, presentTest, absentTest, presenceTest}
-use Rattle.state.proofs.TestLaws.{decided-true, decided-false, _and_, by-last, all-append}
+use Rattle.state.specs.Sound.{serverTests, noAccountTests, accountTest, presentFields, presentTest}
+use Rattle.state.proofs.TestLaws.{decided-true, decided-false, all-append}
 use Rattle.records.proofs.PolicyLaws.{policy-low, policy-sporadic}
 use Rattle.state.proofs.tests.thread_holds.Statement.{statement}
 use Rattle.state.proofs.tests.thread_holds.Tie as tie
+
+-- what is lent are thread i's slots
+lent : (i : ℕ) (xs : List ℕ) → take (i * 8 + 8 - i * 8) (drop (i * 8) xs) ≡ slotsAt i xs
+lent i xs = let e : i * 8 + 8 - i * 8 ≡ 8 = omega arith in ap (λ (n : ℕ). take n (drop (i * 8) xs)) e
 
 module _ (start now : ℕ) (t : Thread) (q : Pending) where
   abbrev absent : Bool
@@ -27,64 +33,82 @@ module _ (start now : ℕ) (t : Thread) (q : Pending) where
   abbrev held : Bool
   held = soundAt start now (isBlocked t) (t .parameters) (record { server = t .server; pending = q })
 
-  abbrev fields : Bool → Bool
-  fields b = all (cond b (presentFields t) (absentFields t))
+  parts : presentTest start now t q ≡ cond (all (presentFields t)) (accountTest start now t q) false
+  unfolding presentTest all
+  parts = all-append (presentFields t) (accountTest start now t q ∷ []) ∙ ap (λ (x : Bool). cond (all (presentFields t)) x false) (all-one (accountTest start now t q))
 
-  -- no thread has no account either
-  none-left : fields false ≡ true → accountTest start now t q ≡ absent
-  unfolding allZero
-  none-left e =
-      let h = all-true (absentFields t) e in
-      let z = all-true _ (h .0) in
-      ap (λ (c : ℕ). byPolicy c absent absent held) (eqb-true (t .parameters .policy) 0 (z .0))
+  refused : all (presentFields t) ≡ false → false ≡ presentTest start now t q
+  refused e = sym (parts ∙ cond-false _ _ _ e)
 
-  parts : (b : Bool) → presenceTest b start now t q ≡ cond (fields b) (accountTest start now t q) false
-  unfolding presentTest absentTest all
-  parts true = all-append (presentFields t) (accountTest start now t q ∷ []) ∙ ap (λ (x : Bool). cond (fields true) x false) (all-one (accountTest start now t q))
-  parts false =
-      all-append (absentFields t) (absent ∷ []) ∙ ap (λ (x : Bool). cond (fields false) x false) (all-one absent) ∙ go (fields false) refl
-    where
-      go : (f : Bool) → fields false ≡ f → cond f absent false ≡ cond f (accountTest start now t q) false
-      go true e = sym (none-left e)
-      go false e = refl
+  some : (r : Bool) → all (presentFields t) ≡ true → 1 < t .parameters .policy → r ≡ held → r ≡ presentTest start now t q
+  some r f h e = e ∙ sym (parts ∙ cond-true _ _ _ f ∙ policy-sporadic (t .parameters .policy) absent absent held (omega arith))
 
-  refused : (b : Bool) → fields b ≡ false → false ≡ presenceTest b start now t q
-  refused b e = sym (parts b ∙ cond-false _ _ _ e)
+  none : (r : Bool) → all (presentFields t) ≡ true → t .parameters .policy ≤ 1 → r ≡ absent → r ≡ presentTest start now t q
+  none r f h e = e ∙ sym (parts ∙ cond-true _ _ _ f ∙ policy-low (t .parameters .policy) absent held (omega arith))
 
-  -- p is the pending replenishments that were read
-  some : {p : Pending} (b r : Bool) → fields b ≡ true → 1 < t .parameters .policy → p ≡ q
-      → r ≡ soundAt start now (isBlocked t) (t .parameters) (record { server = t .server; pending = p }) → r ≡ presenceTest b start now t q
-  some b r f h e s =
-      s
-      ∙ ap (λ (x : Pending). soundAt start now (isBlocked t) (t .parameters) (record { server = t .server; pending = x })) e
-      ∙ sym (parts b ∙ cond-true _ _ _ f ∙ policy-sporadic (t .parameters .policy) absent absent held (omega arith))
+  -- the slots decide, where there is no server and no count
+  slots : all (serverTests (t .server)) ≡ true → q .count ≡ 0 → all (all (zeros (q .dues)) ∷ all (zeros (q .amounts)) ∷ []) ≡ absent
+  unfolding all
+  slots e f =
+      let rest = eqb (q .count) 0 ∷ all (zeros (q .dues)) ∷ all (zeros (q .amounts)) ∷ [] in
+      let g : all rest ≡ all (all (zeros (q .dues)) ∷ all (zeros (q .amounts)) ∷ []) = simp (eq-eqb (q .count) 0 f) in
+      sym (all-append (serverTests (t .server)) rest ∙ cond-true _ _ _ e ∙ g)
 
-  none : (b r : Bool) → fields b ≡ true → t .parameters .policy ≤ 1 → r ≡ absent → r ≡ presenceTest b start now t q
-  none b r f h e = e ∙ sym (parts b ∙ cond-true _ _ _ f ∙ policy-low (t .parameters .policy) absent held (omega arith))
-
-fields-hold-requires : tie.Need-fields-hold-requires
-fields-hold-requires c κs = search needs
+present-fields-requires : tie.Need-present-fields-requires
+present-fields-requires c κs = search needs
 
 returns : tie.Need-returns
 returns c =
-    let a = c .before .before .args in
+    let a = c .before .before .before .before .args in
     let q = pendingOf (a .counts .now) (a .dues .now) (a .amounts .now) (a .i) in
-    refused (a .start) (a .time) (a .t) q (a .present) (decided-false _ (c .before .fields-hold .ensures) (c .if1 .taken))
+    refused (a .start) (a .time) (a .t) q (decided-false _ (c .before .present-fields .ensures) (c .if1 .taken))
 
-pending-at-requires : tie.Need-pending-at-requires
-pending-at-requires c κs = search needs
+mul-from : tie.Need-mul-from
+mul-from c = search needs
 
-sound-requires : tie.Need-sound-requires
-sound-requires c κs = search needs
+add-end : tie.Need-add-end
+add-end c = search needs
+
+element-copy-out-sound-lent : tie.Need-element-copy-out-sound-lent
+element-copy-out-sound-lent c = search needs
+
+mul-sound-lent : tie.Need-mul-sound-lent
+mul-sound-lent c = search needs
+
+sub-sound-lent : tie.Need-sub-sound-lent
+sub-sound-lent c = search needs
+
+part-sound-lent-start : tie.Need-part-sound-lent-start
+part-sound-lent-start c = search needs
+
+part-sound-lent-end : tie.Need-part-sound-lent-end
+part-sound-lent-end c = search needs
+
+mul-sound-lent-2 : tie.Need-mul-sound-lent-2
+mul-sound-lent-2 c = search needs
+
+sub-sound-lent-2 : tie.Need-sub-sound-lent-2
+sub-sound-lent-2 c = search needs
+
+part-sound-lent-start-2 : tie.Need-part-sound-lent-start-2
+part-sound-lent-start-2 c = search needs
+
+part-sound-lent-end-2 : tie.Need-part-sound-lent-end-2
+part-sound-lent-end-2 c = search needs
+
+sound-lent-requires : tie.Need-sound-lent-requires
+sound-lent-requires c κs = search needs
 
 returns-2 : tie.Need-returns-2
 returns-2 c =
-    let p = c .before .before in
-    let e = p .before .before .before .before .before in
-    let a = e .before .before .args in
+    let l = c .before .before .before .before .before in
+    let i = l .before .before .before .before in
+    let a = i .before .before .before .before .args in
     let q = pendingOf (a .counts .now) (a .dues .now) (a .amounts .now) (a .i) in
-    some (a .start) (a .time) (a .t) q (a .present) _ (decided-true _ (e .before .fields-hold .ensures) (e .if1 .left)) (p .before .if2 .taken)
-    (p .pending-at .ensures) (c .sound .ensures)
+    some (a .start) (a .time) (a .t) q _ (decided-true _ (i .before .present-fields .ensures) (i .if1 .left)) (l .if2 .taken)
+    (c .sound-lent .ensures
+    ∙ ap₂ (λ (ds xs : List ℕ). soundAt (a .start) (a .time) (isBlocked (a .t)) (a .t .parameters) (accountOf (a .t .server) (getD (a .counts .now) (a .i) 0) ds xs))
+    (lent (a .i) (a .dues .now)) (lent (a .i) (a .amounts .now)))
 
 no-server-requires : tie.Need-no-server-requires
 no-server-requires c κs = search needs
@@ -92,10 +116,10 @@ no-server-requires c κs = search needs
 returns-3 : tie.Need-returns-3
 returns-3 c =
     let l = c .before .before in
-    let e = l .before .before .before .before in
-    let a = e .before .before .args in
+    let i = l .before .before .before .before in
+    let a = i .before .before .before .before .args in
     let q = pendingOf (a .counts .now) (a .dues .now) (a .amounts .now) (a .i) in
-    none (a .start) (a .time) (a .t) q (a .present) _ (decided-true _ (e .before .fields-hold .ensures) (e .if1 .left)) (l .if2 .left)
+    none (a .start) (a .time) (a .t) q _ (decided-true _ (i .before .present-fields .ensures) (i .if1 .left)) (l .if2 .left)
     (sym (all-append (serverTests (a .t .server)) _ ∙ cond-false _ _ _ (decided-false _ (c .before .no-server .ensures) (c .if3 .taken))))
 
 element-copy-out-if4 : tie.Need-element-copy-out-if4
@@ -104,54 +128,82 @@ element-copy-out-if4 c = search needs
 returns-4 : tie.Need-returns-4
 returns-4 c =
     let l = c .before .before .before .before in
-    let e = l .before .before .before .before in
-    let a = e .before .before .args in
+    let i = l .before .before .before .before in
+    let a = i .before .before .before .before .args in
     let q = pendingOf (a .counts .now) (a .dues .now) (a .amounts .now) (a .i) in
-    none (a .start) (a .time) (a .t) q (a .present) _ (decided-true _ (e .before .fields-hold .ensures) (e .if1 .left)) (l .if2 .left)
+    none (a .start) (a .time) (a .t) q _ (decided-true _ (i .before .present-fields .ensures) (i .if1 .left)) (l .if2 .left)
     (sym (all-false (noAccountTests (a .t .server) q) 3 (ne-eqb _ _ (c .if4 .taken))))
 
-row-zero-requires : tie.Need-row-zero-requires
-row-zero-requires c κs = search needs
+mul-clear : tie.Need-mul-clear
+mul-clear c = search needs
+
+sub-clear : tie.Need-sub-clear
+sub-clear c = search needs
+
+part-clear-start : tie.Need-part-clear-start
+part-clear-start c = search needs
+
+part-clear-end : tie.Need-part-clear-end
+part-clear-end c = search needs
+
+mul-clear-2 : tie.Need-mul-clear-2
+mul-clear-2 c = search needs
+
+sub-clear-2 : tie.Need-sub-clear-2
+sub-clear-2 c = search needs
+
+part-clear-start-2 : tie.Need-part-clear-start-2
+part-clear-start-2 c = search needs
+
+part-clear-end-2 : tie.Need-part-clear-end-2
+part-clear-end-2 c = search needs
+
+clear-requires : tie.Need-clear-requires
+clear-requires c κs = search needs
 
 returns-5 : tie.Need-returns-5
 returns-5 c =
-    let l = c .before .before .before .before .before .before in
-    let e = l .before .before .before .before in
-    let a = e .before .before .args in
+    let z = c .before .before .before in
+    let v = z .before .before in
+    let l = v .before .before in
+    let i = l .before .before .before .before in
+    let a = i .before .before .before .before .args in
     let q = pendingOf (a .counts .now) (a .dues .now) (a .amounts .now) (a .i) in
-    none (a .start) (a .time) (a .t) q (a .present) _ (decided-true _ (e .before .fields-hold .ensures) (e .if1 .left)) (l .if2 .left)
-    (sym (all-false (noAccountTests (a .t .server) q) 4 (decided-false _ (c .before .row-zero .ensures) (c .if5 .taken))))
-
-row-zero-requires-2 : tie.Need-row-zero-requires-2
-row-zero-requires-2 c κs = search needs
-
-returns-6 : tie.Need-returns-6
-returns-6 c =
-    let z = c .before .before in
-    let s = z .before .before .before in
-    let l = s .before .before in
-    let e = l .before .before .before .before in
-    let a = e .before .before .args in
-    let q = pendingOf (a .counts .now) (a .dues .now) (a .amounts .now) (a .i) in
-    let v = all-true (serverTests (a .t .server)) (decided-true _ (s .before .no-server .ensures) (s .if3 .left)) in
-    none (a .start) (a .time) (a .t) q (a .present) _ (decided-true _ (e .before .fields-hold .ensures) (e .if1 .left)) (l .if2 .left)
-    (by-last (noAccountTests (a .t .server) q) (c .row-zero2 .ensures)
-    (v .0 and v .1 .0 and v .1 .1 .0 and eq-eqb _ _ (z .before .if4 .left) and decided-true _ (z .row-zero .ensures) (c .before .if5 .left) and tt))
+    none (a .start) (a .time) (a .t) q _ (decided-true _ (i .before .present-fields .ensures) (i .if1 .left)) (l .if2 .left)
+    (c .clear .ensures
+    ∙ ap₂ (λ (ds xs : List ℕ). all (all (zeros ds) ∷ all (zeros xs) ∷ [])) (lent (a .i) (a .dues .now)) (lent (a .i) (a .amounts .now))
+    ∙ slots (a .start) (a .time) (a .t) q (decided-true _ (v .before .no-server .ensures) (v .if3 .left)) (z .if4 .left))
 
 pub thread-holds-spec : {M : Type 1} → statement M
 thread-holds-spec =
     tie.close
     (tie.spec
-    fields-hold-requires
+    present-fields-requires
     returns
-    pending-at-requires
-    sound-requires
+    mul-from
+    add-end
+    element-copy-out-sound-lent
+    mul-sound-lent
+    sub-sound-lent
+    part-sound-lent-start
+    part-sound-lent-end
+    mul-sound-lent-2
+    sub-sound-lent-2
+    part-sound-lent-start-2
+    part-sound-lent-end-2
+    sound-lent-requires
     returns-2
     no-server-requires
     returns-3
     element-copy-out-if4
     returns-4
-    row-zero-requires
-    returns-5
-    row-zero-requires-2
-    returns-6)
+    mul-clear
+    sub-clear
+    part-clear-start
+    part-clear-end
+    mul-clear-2
+    sub-clear-2
+    part-clear-start-2
+    part-clear-end-2
+    clear-requires
+    returns-5)
