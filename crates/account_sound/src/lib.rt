@@ -44,11 +44,17 @@ pub fn sound_lent<'a>(
         return false;
     }
     let n = wide(count);
-    if !tests::amounts_hold(p.budget, s.capacity, s.used, &amounts[..n]) {
-        return false;
-    }
     let base = tests::either(up, s.activation, time);
-    if !tests::dues_hold(&dues[..n], time, base, p.period) {
+    if !tests::entries_hold(
+        p.budget,
+        s.capacity,
+        s.used,
+        &amounts[..n],
+        &dues[..n],
+        time,
+        base,
+        p.period,
+    ) {
         return false;
     }
     clear(&dues[n..], &amounts[n..])

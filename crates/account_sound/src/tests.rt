@@ -2,6 +2,8 @@
 ghost use mathlib.Core.Path.{_≡_};
 ghost use Prim.Native.Nat.{_+_, _≤_};
 ghost use mathlib.Core.Bool.{cond};
+ghost use mathlib.Core.List.{[], _∷_};
+ghost use lib.ListN.{length};
 ghost use Rattle.base.specs.Tests.{all};
 ghost use Rattle.account.specs.Sound.{numberTests, amountTests, dueTests};
 use account::ENTRIES;
@@ -50,9 +52,20 @@ pub(super) fn numbers_hold(
     s.used <= now - s.activation
 }
 
-// The amounts are at least 1, and with capacity and U they make the budget.
-pub(super) fn amounts_hold(budget: u64, capacity: u64, used: u64, amounts: &[u64]) -> bool
-    ensures { λ r. ⌜ r ≡ all (amountTests budget (capacity + used) (now (amounts .entry))) ⌝ }
+// The pending entries: the amounts are at least 1 and with capacity and U make the budget; the dues strictly rise, the first
+// after `after`, and are less than `period` after `base`. One pass over both.
+pub(super) fn entries_hold<'a>(
+    budget: u64,
+    capacity: u64,
+    used: u64,
+    amounts: &'a [u64],
+    dues: &'a [u64],
+    after: u64,
+    base: u64,
+    period: u64,
+) -> bool
+    requires { ⌜ (length (now amounts) ≡ length (now dues)) × (base ≤ after) ⌝ }
+    ensures { λ r. ⌜ r ≡ all (all (amountTests budget (capacity + used) (now (amounts .entry))) ∷ all (dueTests after (base + period) (now (dues .entry))) ∷ []) ⌝ }
 {
     if budget < capacity {
         return false;
@@ -61,9 +74,11 @@ pub(super) fn amounts_hold(budget: u64, capacity: u64, used: u64, amounts: &[u64
         return false;
     }
     let mut left = budget - capacity - used;
+    let mut last = after;
     let mut i: usize = 0;
-    while i < amounts.len() {
+    while i < dues.len() {
         let x = amounts[i];
+        let d = dues[i];
         i = i + 1;
         if x < 1 {
             return false;
@@ -71,28 +86,14 @@ pub(super) fn amounts_hold(budget: u64, capacity: u64, used: u64, amounts: &[u64
         if left < x {
             return false;
         }
-        left = left - x;
-    }
-    left == 0
-}
-
-// The dues strictly rise, the first after `after`, and are less than `period` after `base`.
-pub(super) fn dues_hold(dues: &[u64], after: u64, base: u64, period: u64) -> bool
-    requires { ⌜ base ≤ after ⌝ }
-    ensures { λ r. ⌜ r ≡ all (dueTests after (base + period) (now (dues .entry))) ⌝ }
-{
-    let mut last = after;
-    let mut i: usize = 0;
-    while i < dues.len() {
-        let d = dues[i];
-        i = i + 1;
         if d <= last {
             return false;
         }
         if period <= d - base {
             return false;
         }
+        left = left - x;
         last = d;
     }
-    true
+    left == 0
 }

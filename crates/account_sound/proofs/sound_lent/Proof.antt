@@ -1,15 +1,15 @@
--- `account_sound::sound_lent` meets its contract: the numbers, the amounts and the dues in use, and then the slots that are not.
+-- `account_sound::sound_lent` meets its contract: the numbers, the entries, and then the slots that are not in use.
 use borrow.Author.Needs.{needs}
 use Prim.Native.Nat.{ℕ, _+_, _-_, _≤_}
-use mathlib.Core.Bool.{Bool, true, cond}
-use mathlib.Core.Path.{_≡_, sym, ap, ap₂, _∙_}
+use mathlib.Core.Bool.{Bool, true, false, cond}
+use mathlib.Core.Path.{_≡_, refl, sym, ap, ap₂, _∙_}
 use mathlib.Core.List.{List, [], _∷_}
 use lib.ListN.{length, take, drop, length-take, length-drop}
 use lib.Seq.{take-all}
 use native.Mathlib.Omega.{arith}
 use borrow.Author.Tests.{eq-eqb, not-true, not-false}
 use Rattle.base.specs.Tests.{all, zeros}
-use Rattle.base.proofs.TestLaws.{tests, all-false, all-true, cond-elim}
+use Rattle.base.proofs.TestLaws.{tests, all-false, all-true, false-true, cond-elim}
 use Rattle.records.specs.declared.Parameters.{Parameters}
 use Rattle.account.specs.declared.Account.{Account}
 use Rattle.account.specs.Account.{pendingDues, pendingAmounts}
@@ -36,6 +36,12 @@ module _ (start now : ℕ) (blocked : Bool) (p : Parameters) (a : Account) (up :
         ∙ ap (λ (b : ℕ). all (dueTests now (b + p .period) (take n (a .pending .dues)))) (eb ∙ ap (λ (u : Bool). cond u (a .server .activation) now) eu)
         ∙ ap (λ (k : ℕ). all (dueTests now (dueEnd now (runsUpper blocked p a) p (a .server)) (take k (a .pending .dues)))) en
 
+    entries : (base : ℕ) (r : Bool) → base ≡ cond up (a .server .activation) now
+        → r ≡ all (all (amountTests (p .budget) (a .server .capacity + a .server .used) (take n (a .pending .amounts))) ∷ all (dueTests now (base + p .period) (take n (a .pending .dues))) ∷ [])
+        → r ≡ all (all (amountTests (p .budget) (a .server .capacity + a .server .used) (pendingAmounts (a .pending)))
+        ∷ all (dueTests now (dueEnd now (runsUpper blocked p a) p (a .server)) (pendingDues (a .pending))) ∷ [])
+    entries base r eb e = e ∙ ap₂ (λ (x y : Bool). all (x ∷ y ∷ [])) (sums _ refl) (times base _ eb refl)
+
 -- what is left of a list from n on is what the test of its slots asks
 long : (n count : ℕ) (xs : List ℕ) → n ≡ count → length xs ≡ 8 → all (zeros (take (length xs - n) (drop n xs))) ≡ all (slotTests count xs)
 unfolding all
@@ -43,6 +49,14 @@ long n count xs e l =
     ap (λ (ys : List ℕ). all (zeros ys)) (take-all (length xs - n) (drop n xs) (omega (arith, length-drop n xs)))
     ∙ ap (λ (k : ℕ). all (zeros (drop k xs))) e
     ∙ sym (simp (eq-eqb (length xs) 8 l))
+
+-- where the second and third test do not both hold, all do not
+pair-false : (t u v w x : Bool) → all (u ∷ v ∷ []) ≡ false → all (t ∷ u ∷ v ∷ w ∷ x ∷ []) ≡ false
+unfolding all
+pair-false true true true w x e = false-true (sym e)
+pair-false true true false w x e = refl
+pair-false true false v w x e = refl
+pair-false false u v w x e = refl
 
 -- where three tests hold, the last two decide
 last-two : (t u v w x : Bool) → t ≡ true → u ≡ true → v ≡ true → all (w ∷ x ∷ []) ≡ all (t ∷ u ∷ v ∷ w ∷ x ∷ [])
@@ -93,64 +107,53 @@ returns c =
 wide-requires : tie.Need-wide-requires
 wide-requires c κs = search needs
 
-slice-aggregate-amounts-hold : tie.Need-slice-aggregate-amounts-hold
-slice-aggregate-amounts-hold c =
-    let w = c .before in
+either-requires : tie.Need-either-requires
+either-requires c κs = search needs
+
+slice-aggregate-entries-hold : tie.Need-slice-aggregate-entries-hold
+slice-aggregate-entries-hold c =
+    let w = c .before .before in
     let a = w .before .before .before .before .before .before .args in
     omega (arith, length-take (w .wide .result) (a .amounts .now), numbered w .few)
 
-amounts-hold-requires : tie.Need-amounts-hold-requires
-amounts-hold-requires c κs = search needs
+slice-aggregate-entries-hold-2 : tie.Need-slice-aggregate-entries-hold-2
+slice-aggregate-entries-hold-2 c =
+    let w = c .before .before .before in
+    let a = w .before .before .before .before .before .before .args in
+    omega (arith, length-take (w .wide .result) (a .dues .now), numbered w .few)
+
+entries-hold-requires : tie.Need-entries-hold-requires
+entries-hold-requires c κs =
+    let t = c .before .before in
+    let w = t .before in
+    let u = w .before .before .before in
+    let a = u .before .before .before .args in
+    let n = w .wide .result in (
+      omega (arith, length-take n (a .amounts .now), length-take n (a .dues .now), numbered w .few),
+      rw (t .either .ensures)
+          (cond-elim (λ (b : ℕ). b ≤ a .time) (u .runs-upper .result) (a .s .activation) (a .time) (λ e. numbered w .begun) (λ e. omega arith)),
+    )
 
 returns-2 : tie.Need-returns-2
 unfolding soundAt
 returns-2 c =
-    let w = c .before .before .before in
+    let t = c .before .before .before .before in
+    let w = t .before in
     let u = w .before .before .before in
     let st = u .before .before .before in
     let a = st .args in
     sym
-    (all-false (soundTests (a .start) (a .time) (a .blocked) (a .p) (given st)) 1
-    (sym (sums (a .start) (a .time) (a .blocked) (a .p) (given st) _ (u .runs-upper .ensures) _ (w .wide .ensures) _ (c .before .amounts-hold .ensures)) ∙ not-true _ (c .if2 .taken)))
-
-either-requires : tie.Need-either-requires
-either-requires c κs = search needs
-
-slice-aggregate-dues-hold : tie.Need-slice-aggregate-dues-hold
-slice-aggregate-dues-hold c =
-    let w = c .before .before .before .before .before in
-    let a = w .before .before .before .before .before .before .args in
-    omega (arith, length-take (w .wide .result) (a .dues .now), numbered w .few)
-
-dues-hold-requires : tie.Need-dues-hold-requires
-dues-hold-requires c κs =
-    let w = c .before .before .before .before .before in
-    let u = w .before .before .before in
-    let a = u .before .before .before .args in
-    rw (c .before .either .ensures)
-    (cond-elim (λ (b : ℕ). b ≤ a .time) (u .runs-upper .result) (a .s .activation) (a .time) (λ e. numbered w .begun) (λ e. omega arith))
-
-returns-3 : tie.Need-returns-3
-unfolding soundAt
-returns-3 c =
-    let t = c .before .before .before in
-    let w = t .before .before .before .before in
-    let u = w .before .before .before in
-    let st = u .before .before .before in
-    let a = st .args in
-    sym
-    (all-false (soundTests (a .start) (a .time) (a .blocked) (a .p) (given st)) 2
-    (sym (times (a .start) (a .time) (a .blocked) (a .p) (given st) _ (u .runs-upper .ensures) _ (w .wide .ensures) _ _ (t .either .ensures) (c .before .dues-hold .ensures))
-    ∙ not-true _ (c .if3 .taken)))
+    (pair-false _ _ _ _ _
+    (sym (entries (a .start) (a .time) (a .blocked) (a .p) (given st) _ (u .runs-upper .ensures) _ (w .wide .ensures) _ _ (t .either .ensures) (c .before .entries-hold .ensures)) ∙ not-true _ (c .if2 .taken)))
 
 mul-clear : tie.Need-mul-clear
 mul-clear c = search needs
 
 sub-clear : tie.Need-sub-clear
-sub-clear c = omega (arith, numbered (c .before .before .before .before .before .before .before) .few)
+sub-clear c = omega (arith, numbered (c .before .before .before .before .before) .few)
 
 part-clear-start : tie.Need-part-clear-start
-part-clear-start c = omega (arith, numbered (c .before .before .before .before .before .before .before) .few)
+part-clear-start c = omega (arith, numbered (c .before .before .before .before .before) .few)
 
 part-clear-end : tie.Need-part-clear-end
 part-clear-end c = search needs
@@ -159,10 +162,10 @@ mul-clear-2 : tie.Need-mul-clear-2
 mul-clear-2 c = search needs
 
 sub-clear-2 : tie.Need-sub-clear-2
-sub-clear-2 c = omega (arith, numbered (c .before .before .before .before .before .before .before .before) .few)
+sub-clear-2 c = omega (arith, numbered (c .before .before .before .before .before .before) .few)
 
 part-clear-start-2 : tie.Need-part-clear-start-2
-part-clear-start-2 c = omega (arith, numbered (c .before .before .before .before .before .before .before .before) .few)
+part-clear-start-2 c = omega (arith, numbered (c .before .before .before .before .before .before) .few)
 
 part-clear-end-2 : tie.Need-part-clear-end-2
 part-clear-end-2 c = search needs
@@ -170,23 +173,20 @@ part-clear-end-2 c = search needs
 clear-requires : tie.Need-clear-requires
 clear-requires c κs = search needs
 
-returns-4 : tie.Need-returns-4
+returns-3 : tie.Need-returns-3
 unfolding soundAt
-returns-4 c =
+returns-3 c =
     let i = c .before .before .before in
-    let d = i .before in
-    let t = d .before .before in
-    let w = t .before .before .before .before in
+    let t = i .before .before .before .before in
+    let w = t .before in
     let u = w .before .before .before in
     let st = u .before .before .before in
     let a = st .args in
-    let second = sym (sums (a .start) (a .time) (a .blocked) (a .p) (given st) _ (u .runs-upper .ensures) _ (w .wide .ensures) _ (t .before .before .amounts-hold .ensures))
-    ∙ not-false _ (t .before .if2 .left) in
-    let third = sym (times (a .start) (a .time) (a .blocked) (a .p) (given st) _ (u .runs-upper .ensures) _ (w .wide .ensures) _ _ (t .either .ensures) (d .dues-hold .ensures))
-    ∙ not-false _ (i .if3 .left) in
+    let h = all-true _
+    (sym (entries (a .start) (a .time) (a .blocked) (a .p) (given st) _ (u .runs-upper .ensures) _ (w .wide .ensures) _ _ (t .either .ensures) (i .before .entries-hold .ensures)) ∙ not-false _ (i .if2 .left)) in
     c .clear .ensures
     ∙ ap₂ (λ (x y : Bool). all (x ∷ y ∷ [])) (long _ _ (a .dues .now) (w .wide .ensures) (omega arith)) (long _ _ (a .amounts .now) (w .wide .ensures) (omega arith))
-    ∙ last-two _ _ _ _ _ (numbered w .first) second third
+    ∙ last-two _ _ _ _ _ (numbered w .first) (h .0) (h .1 .0)
 
 pub sound-lent-spec : {M : Type 1} → statement M
 sound-lent-spec =
@@ -196,13 +196,11 @@ sound-lent-spec =
     numbers-hold-requires
     returns
     wide-requires
-    slice-aggregate-amounts-hold
-    amounts-hold-requires
-    returns-2
     either-requires
-    slice-aggregate-dues-hold
-    dues-hold-requires
-    returns-3
+    slice-aggregate-entries-hold
+    slice-aggregate-entries-hold-2
+    entries-hold-requires
+    returns-2
     mul-clear
     sub-clear
     part-clear-start
@@ -212,4 +210,4 @@ sound-lent-spec =
     part-clear-start-2
     part-clear-end-2
     clear-requires
-    returns-4)
+    returns-3)
