@@ -5,14 +5,17 @@ use mathlib.Core.Path.{_≡_, refl, sym, ap, _∙_}
 use mathlib.Core.List.{List, [], _∷_, _++_}
 use native.Mathlib.Omega.{arith}
 use lib.ListN.{length, drop, getD}
+use lib.Bits.{bitOr}
 use lib.Dec.{ltb, eqb}
 use borrow.Author.Tests.{lt-ltb, le-ltb, eqb-true}
 use Rattle.base.specs.Tests.{all, below, zeros}
-use Rattle.base.proofs.TestLaws.{tests, All, all-true, true-all, below-at, cond-true, cond-false}
-use Rattle.base.proofs.ZeroLaws.{Clear, part-clear, clear-part, drop-clear, clear-drop}
-use Rattle.records.specs.Ranges.{byPolicy, allZero}
+use Rattle.base.proofs.TestLaws.{tests, All, all-true, true-all, all-one, same-test, below-at, cond-true, cond-false}
+use Rattle.base.proofs.ZeroLaws.{or-none, cond-both, Clear, part-clear, clear-part, drop-clear, clear-drop}
+use Rattle.records.specs.declared.Parameters.{Parameters}
+use Rattle.records.specs.Ranges.{byPolicy, allZero, fifoInRange}
 use Rattle.account.specs.declared.Pending.{Pending}
 use Rattle.rows.specs.Rows.{slotsAt}
+use Rattle.sporadic.specs.declared.Server.{Server}
 use Rattle.sporadic.specs.Rules.{atUpper}
 use Rattle.thread.specs.declared.Thread.{Thread}
 use Rattle.thread.specs.Thread.{placeOf}
@@ -24,6 +27,57 @@ use Rattle.state.proofs.ThreadLaws.{totals-next, totals-none}
 -- no thread, less its slots
 abbrev pub noThreadTests : Thread → ℕ → List Bool
 noThreadTests t count = absentFields t ++ (serverTests (t .server) ++ (eqb count 0 ∷ []))
+
+-- the bits of a number and of a list
+abbrev pub orAll : ℕ → List ℕ → ℕ
+orAll a [] = a
+orAll a (x ∷ xs) = orAll (bitOr a x) xs
+
+pub or-all : (a : ℕ) (xs : List ℕ) → eqb (orAll a xs) 0 ≡ all (zeros (a ∷ xs))
+unfolding all
+or-all a [] = sym (all-one (eqb a 0))
+or-all a (x ∷ xs) = or-all (bitOr a x) xs ∙ rw (or-none a x) (cond-both (eqb a 0) (eqb x 0) (all (zeros xs)))
+
+-- all bytes and all words of a place
+abbrev pub bytesOf : Thread → ℕ → ℕ
+bytesOf t count = let p = t .parameters in orAll (p .policy) (p .priority ∷ p .low ∷ p .«max_repl» ∷ t .blocked ∷ count ∷ [])
+
+abbrev pub wordsOf : Thread → ℕ
+wordsOf t =
+    let p = t .parameters in
+    let v = t .server in
+    orAll (p .budget) (p .period ∷ t .total ∷ t .left ∷ v .capacity ∷ v .used ∷ v .activation ∷ p .flag ∷ [])
+
+-- no bit, no thread
+pub no-bits : (t : Thread) (count : ℕ) → eqb (bitOr (wordsOf t) (bytesOf t count)) 0 ≡ all (noThreadTests t count)
+unfolding allZero fifoInRange
+no-bits t count =
+    same-test _ _
+    (λ e.
+    let w = all-true (zeros (p .budget ∷ p .period ∷ t .total ∷ t .left ∷ v .capacity ∷ v .used ∷ v .activation ∷ p .flag ∷ bytesOf t count ∷ []))
+    (sym (or-all (p .budget) (p .period ∷ t .total ∷ t .left ∷ v .capacity ∷ v .used ∷ v .activation ∷ p .flag ∷ bytesOf t count ∷ [])) ∙ e) in
+    let b = all-true (zeros (p .policy ∷ p .priority ∷ p .low ∷ p .«max_repl» ∷ t .blocked ∷ count ∷ []))
+    (sym (or-all (p .policy) (p .priority ∷ p .low ∷ p .«max_repl» ∷ t .blocked ∷ count ∷ [])) ∙ w .1 .1 .1 .1 .1 .1 .1 .1 .0) in
+    let fifo = true-all _ (b .1 .1 .0, (b .1 .1 .1 .0, (w .0, (w .1 .0, tt)))) in
+    let zero = true-all _ (b .0, (b .1 .0, (w .1 .1 .1 .1 .1 .1 .1 .0, (fifo, tt)))) in
+    true-all (noThreadTests t count)
+    (zero, (b .1 .1 .1 .1 .0, (w .1 .1 .0, (w .1 .1 .1 .0, (w .1 .1 .1 .1 .0, (w .1 .1 .1 .1 .1 .0, (w .1 .1 .1 .1 .1 .1 .0, (b .1 .1 .1 .1 .1 .0, tt)))))))))
+    (λ e.
+    let h = all-true (noThreadTests t count) e in
+    let z = all-true _ (h .0) in
+    let f = all-true _ (z .1 .1 .1 .0) in
+    let b = or-all (p .policy) (p .priority ∷ p .low ∷ p .«max_repl» ∷ t .blocked ∷ count ∷ [])
+    ∙ true-all (zeros (p .policy ∷ p .priority ∷ p .low ∷ p .«max_repl» ∷ t .blocked ∷ count ∷ []))
+    (z .0, (z .1 .0, (f .0, (f .1 .0, (h .1 .0, (h .1 .1 .1 .1 .1 .1 .1 .0, tt)))))) in
+    or-all (p .budget) (p .period ∷ t .total ∷ t .left ∷ v .capacity ∷ v .used ∷ v .activation ∷ p .flag ∷ bytesOf t count ∷ [])
+    ∙ true-all (zeros (p .budget ∷ p .period ∷ t .total ∷ t .left ∷ v .capacity ∷ v .used ∷ v .activation ∷ p .flag ∷ bytesOf t count ∷ []))
+    (f .1 .1 .0, (f .1 .1 .1 .0, (h .1 .1 .0, (h .1 .1 .1 .0, (h .1 .1 .1 .1 .0, (h .1 .1 .1 .1 .1 .0, (h .1 .1 .1 .1 .1 .1 .0, (z .1 .1 .0, (b, tt))))))))))
+  where
+    p : Parameters
+    p = t .parameters
+
+    v : Server
+    v = t .server
 
 module _ (t : Thread) (q : Pending) where
   pub absent-in : all (noThreadTests t (q .count)) ≡ true → All (zeros (q .dues)) → All (zeros (q .amounts)) → absentTest t q ≡ true

@@ -60,35 +60,22 @@ fn present_fields(t: Thread) -> bool
     left_holds(t)
 }
 
-// Whether a thread from N on is none; its account is asked apart.
-fn absent_fields(t: Thread) -> bool
-    ensures { λ r. ⌜ r ≡ all (absentFields t) ⌝ }
+// A byte as a word.
+fn long(x: u8) -> u64
+    ensures { λ r. ⌜ r ≡ x ⌝ }
 {
-    let p = t.parameters;
-    if !records::all_zero(p) {
-        return false;
-    }
-    if t.blocked != 0 {
-        return false;
-    }
-    if t.total != 0 {
-        return false;
-    }
-    t.left == 0
+    x as u64
 }
 
-// Whether a place from N on holds no thread; its slots are asked apart.
+// Whether a place from N on holds no thread; its slots are asked apart. All its bits are put together: one test for each place.
 pub(super) fn no_thread(t: Thread, count: u8) -> bool
     ensures { λ r. ⌜ r ≡ all (absentFields t ++ (serverTests (t .server) ++ (eqb count 0 ∷ []))) ⌝ }
 {
-    if !absent_fields(t) {
-        return false;
-    }
+    let p = t.parameters;
     let s = t.server;
-    if !no_server(s) {
-        return false;
-    }
-    count == 0
+    let bytes = p.policy | p.priority | p.low | p.max_repl | t.blocked | count;
+    let words = p.budget | p.period | t.total | t.left | s.capacity | s.used | s.activation;
+    (words | (p.flag as u64) | long(bytes)) == 0
 }
 
 // Whether no slot from thread n on holds a number.
