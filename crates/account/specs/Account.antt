@@ -5,14 +5,10 @@ use mathlib.Core.List.{List}
 use lib.ListN.{take, getD, replicate}
 use lib.Dec.{eqb}
 use Rattle.records.specs.declared.Parameters.{Parameters}
-use Rattle.records.specs.Ranges.{mostReplenishments}
+pub use Rattle.entries.specs.Entries.{entries}
 use Rattle.sporadic.specs.Rules.{atUpper}
 use Rattle.account.specs.declared.Pending.{Pending}
 use Rattle.account.specs.declared.Account.{Account}
-
--- how many pending replenishments there are slots for: as many as max_repl allows
-abbrev pub entries : ℕ
-entries = mostReplenishments
 
 -- 01 State 2: the due times and the amounts of the pending replenishments
 abbrev pub pendingDues : Pending → List ℕ

@@ -1,10 +1,8 @@
 -- What a rule does to an account: its Effect applied.
-use Prim.Native.Nat.{ℕ, zero, suc, _+_, _-_, _<_, _^_}
-use mathlib.Core.Bool.{Bool, true, false, cond, _&&_}
-use mathlib.Core.Path.{_≡_}
-use mathlib.Core.List.{List, [], _∷_, _++_}
-use lib.ListN.{drop, getD, set}
-use lib.Dec.{ltb, leb, eqb}
+use Prim.Native.Nat.{ℕ, zero, suc, _<_, _^_}
+use mathlib.Core.Bool.{Bool, cond, _&&_}
+use lib.ListN.{getD}
+use lib.Dec.{ltb, leb}
 use Rattle.records.specs.declared.Parameters.{Parameters}
 use Rattle.sporadic.specs.declared.Server.{Server}
 use Rattle.sporadic.specs.declared.Place.the-variants.{Stays}
@@ -13,26 +11,10 @@ use Rattle.sporadic.specs.Rules.{dueOf, blockEffect, wakeEffect, returnEffect}
 use Rattle.account.specs.declared.Pending.{Pending}
 use Rattle.account.specs.declared.Account.{Account}
 use Rattle.account.specs.declared.Outcome.{Outcome}
-use Rattle.account.specs.Account.{entries}
+pub use Rattle.entries.specs.Entries.{withoutFirst, countAfter, slotsAfter, Room}
+use Rattle.entries.specs.Entries.{entries}
 
--- ---- the entries
-
--- the first slot's number is gone, and the others move up
-abbrev pub withoutFirst : List ℕ → List ℕ
-withoutFirst xs = drop 1 xs ++ 0 ∷ []
-
--- the count, and the slots of dues or of amounts, after a rule: the first entry is gone, or one more stands behind those there,
--- of which x is the due time or the amount; amount 0 adds nothing
-abbrev pub countAfter : Bool → ℕ → ℕ → ℕ
-countAfter first amount count = cond first (count - 1) (cond (eqb amount 0) count (count + 1))
-
-abbrev pub slotsAfter : Bool → ℕ → ℕ → ℕ → List ℕ → List ℕ
-slotsAfter first amount count x xs = cond first (withoutFirst xs) (cond (eqb amount 0) xs (set xs count x))
-
--- what that needs: an entry to go, or a free slot
-abbrev pub Room : Bool → ℕ → ℕ → Type 0
-Room first amount count = (first ≡ true → 0 < count) × (first ≡ false → 0 < amount → count < entries)
-
+-- what an Effect does to the pending entries
 abbrev pub pendingAfter : Effect → Pending → Pending
 pendingAfter e q =
     record {
@@ -41,7 +23,7 @@ pendingAfter e q =
       amounts = slotsAfter (e .first) (e .amount) (q .count) (e .amount) (q .amounts);
     }
 
--- what an Effect does to an account, and the answer of a rule: that account, and where the thread goes
+-- and to an account, and the answer of a rule: that account, and where the thread goes
 abbrev pub applied : Effect → Account → Account
 applied e a = record { server = e .server; pending = pendingAfter e (a .pending) }
 

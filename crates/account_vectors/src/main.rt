@@ -116,7 +116,7 @@ fn limit(p: Parameters, a: Account, blocked: bool, now: u64) -> Account {
     if (account::ENTRIES as u8) <= a.pending.count {
         return a;
     }
-    let o = account::limit_reached(p, a, blocked, now);
+    let o = account_moments::limit_reached(p, a, blocked, now);
     print_outcome(p, o, blocked, now);
     o.account
 }
@@ -143,7 +143,7 @@ fn wake(p: Parameters, a: Account, blocked: bool, now: u64) -> Account {
 }
 
 fn due(p: Parameters, a: Account, blocked: bool, now: u64) -> Account {
-    let o = account::return_due(p, a, blocked, now);
+    let o = account_moments::return_due(p, a, blocked, now);
     print_outcome(p, o, blocked, now);
     o.account
 }
@@ -161,7 +161,7 @@ fn replay() {
     let g = due(p, f, false, 40);
     let h = run(p, g, 6, 46);
     let i = limit(p, h, false, 46);
-    io::print_decimal(STDOUT_FILENO, account::first_due(i.pending));
+    io::print_decimal(STDOUT_FILENO, account_moments::first_due(i.pending));
     end_line();
 }
 

@@ -4,7 +4,7 @@ use mathlib.Core.List.{List, _++_}
 use lib.ListN.{take, drop, getD}
 use Rattle.records.specs.Ranges.{mostThreads}
 use Rattle.account.specs.declared.Pending.{Pending}
-use Rattle.account.specs.Account.{entries}
+use Rattle.entries.specs.Entries.{entries}
 
 -- how many slots all threads have
 abbrev pub allSlots : ℕ

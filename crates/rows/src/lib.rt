@@ -3,11 +3,10 @@ ghost use mathlib.Core.Path.{_≡_};
 ghost use Prim.Native.Nat.{_<_};
 ghost use lib.ListN.{length, set, replicate};
 ghost use Rattle.records.specs.Ranges.{mostThreads};
-ghost use Rattle.account.specs.Account.{entries};
-ghost use Rattle.account.specs.Rules.{withoutFirst};
+ghost use Rattle.entries.specs.Entries.{entries, withoutFirst};
 ghost use Rattle.rows.specs.Rows.{allSlots, slotsAt, withSlots, pendingOf};
-use account::ENTRIES;
 use account::Pending;
+use entries::ENTRIES;
 use records::THREADS;
 
 // How many slots the threads have together.
@@ -73,7 +72,7 @@ pub fn remove_first(xs: &mut Slots, i: usize)
     ensures { λ _. ⌜ now (xs .exit) ≡ withSlots i (withoutFirst (slotsAt i (now (xs .entry)))) (now (xs .entry)) ⌝ }
 {
     let row = read_row(xs, i);
-    let rest = account::without_first(row);
+    let rest = entries::without_first(row);
     write_row(xs, i, rest);
 }
 

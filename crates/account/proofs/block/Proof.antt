@@ -7,8 +7,8 @@ use Rattle.account.proofs.block.Tie as tie
 block-effect-requires : tie.Need-block-effect-requires
 block-effect-requires c κs = search needs
 
-answer-requires : tie.Need-answer-requires
-answer-requires c κs =
+outcome-of-requires : tie.Need-outcome-of-requires
+outcome-of-requires c κs =
     let o = c .before .before in
     rw (c .block-effect .ensures) (block-room (o .args .now) (o .args .p) (o .args .a .server) (o .args .blocked) (o .args .a .pending .count) (o .pre))
 
@@ -16,4 +16,4 @@ returns : tie.Need-returns
 returns c = cc
 
 pub block-spec : {M : Type 1} → statement M
-block-spec = tie.close (tie.spec block-effect-requires answer-requires returns)
+block-spec = tie.close (tie.spec block-effect-requires outcome-of-requires returns)

@@ -7,8 +7,8 @@ use Rattle.account.proofs.wake.Tie as tie
 wake-effect-requires : tie.Need-wake-effect-requires
 wake-effect-requires c κs = search needs
 
-answer-requires : tie.Need-answer-requires
-answer-requires c κs =
+outcome-of-requires : tie.Need-outcome-of-requires
+outcome-of-requires c κs =
     let o = c .before .before in
     rw (c .wake-effect .ensures) (wake-room (o .args .now) (o .args .p) (o .args .a .server) (o .args .blocked) (o .args .a .pending .count))
 
@@ -16,4 +16,4 @@ returns : tie.Need-returns
 returns c = cc
 
 pub wake-spec : {M : Type 1} → statement M
-wake-spec = tie.close (tie.spec wake-effect-requires answer-requires returns)
+wake-spec = tie.close (tie.spec wake-effect-requires outcome-of-requires returns)

@@ -3,7 +3,7 @@ use mathlib.Core.Path.{ap, _∙_}
 use mathlib.Core.List.{List}
 use Prim.Native.Nat.{ℕ}
 use borrow.Author.Needs.{needs}
-use Rattle.account.specs.Rules.{withoutFirst}
+use Rattle.entries.specs.Entries.{withoutFirst}
 use Rattle.rows.specs.Rows.{withSlots}
 use Rattle.rows.proofs.remove_first.Statement.{statement}
 use Rattle.rows.proofs.remove_first.Tie as tie

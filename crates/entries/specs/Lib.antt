@@ -1,0 +1,2 @@
+-- What a reader of `entries` must believe.
+pub mod Entries
