@@ -8,7 +8,7 @@ const LONGEST: usize = 132959;
 // Writes the text of a file.
 fn turn(file: &[u8]) -> u8 {
     let mut out = [0u8; LONGEST];
-    let made = trace_text::to_text(file, &mut out);
+    let made = trace_telling::to_text(file, &mut out);
     if made.status != 0 {
         command::refuse(made.status, made.line);
         return command::REFUSED;

@@ -48,7 +48,7 @@ fn turn(text: &[u8]) -> u8 {
         return command::FAILED;
     }
     let mut out = io::large_buffer();
-    let made = trace_text::from_text(text, &mut out);
+    let made = trace_making::from_text(text, &mut out);
     if made.status != 0 {
         command::refuse(made.status, made.line);
         show_line(text, made.line);

@@ -1,5 +1,2 @@
--- Laws that the crates above use.
-pub mod MakingLaws
-pub mod FileLaws
-pub mod StatusLaws
+-- The four statements.
 pub mod RoundTrips

@@ -23,7 +23,8 @@ use Rattle.trace_records.specs.Layout.{threadOffset, eventOffset, totalOf}
 use Rattle.trace_records.specs.Records.{fieldsOf, headerBytes, parametersAt, parametersBytes, eventAt, eventBytes, noEvent, ParametersFit, EventFits}
 use Rattle.trace_contents.specs.declared.Contents.{Contents}
 use Rattle.trace_contents.specs.Lists.{listOf}
-use Rattle.trace_contents.specs.Read.{readStatus, tableOf, contentsOf, countRight, eventsOf as fileEvents}
+use Rattle.trace_header.specs.Header.{countRight}
+use Rattle.trace_contents.specs.Read.{readStatus, tableOf, contentsOf, eventsOf as fileEvents}
 use Rattle.base.specs.Refusals.{firstRefusal}
 use Rattle.trace_contents.proofs.ListLaws.{length-list, list-at, list-same}
 use Rattle.trace_contents.proofs.ReadLaws.{accepted, contents, contents-accepted, contents-status}
@@ -34,10 +35,10 @@ use Rattle.trace.specs.Write.{writeRefusals, writeStatus, fileOf, threadsBytes,
 use Rattle.trace.proofs.RoundTrips.{read-then-write, write-then-read}
 use Rattle.trace.proofs.RunLaws.{joined-same}
 use Rattle.trace.proofs.WriteLaws.{Room, has-room}
-use Rattle.trace_text.specs.FromText.{stageAfter, wrongFrom, linesIn, wrongLine, startOf, threadsOf, eventsOf, headerIn, countIn, textStatus, traceIn}
-use Rattle.trace_text.specs.ToText.{fileLines, linesText, textOf, fitsIn, fileRefusals, fileStatus}
+use Rattle.trace_making.specs.FromText.{stageAfter, wrongFrom, linesIn, wrongLine, startOf, threadsOf, eventsOf, headerIn, countIn, textStatus, traceIn}
+use Rattle.trace_telling.specs.ToText.{fileLines, linesText, textOf, fitsIn, fileRefusals, fileStatus}
 use Rattle.trace_text.specs.RoundTrips.{MadeIsRead, FileAgain, OnlyUnfit, TextAgain}
-use Rattle.trace_text.proofs.FileLaws.{lines-fit}
+use Rattle.trace_telling.proofs.FileLaws.{lines-fit}
 
 -- lines in their order: the start line, threads, events
 abbrev inOrder : ℕ → List Parameters → List Event → List Line

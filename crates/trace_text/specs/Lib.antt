@@ -1,5 +1,2 @@
 -- What a reader of `trace_text` must believe.
-pub mod FromText
-pub mod ToText
 pub mod RoundTrips
-pub mod Private

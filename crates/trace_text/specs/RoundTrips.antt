@@ -6,8 +6,8 @@ use mathlib.Core.Path.{_≡_}
 use lib.ListN.{length}
 use Rattle.little_endian.specs.LittleEndian.{Bytes}
 use Rattle.trace_contents.specs.Read.{readStatus}
-use Rattle.trace_text.specs.FromText.{textStatus, traceIn}
-use Rattle.trace_text.specs.ToText.{fitsIn, textOf, fileStatus}
+use Rattle.trace_making.specs.FromText.{textStatus, traceIn}
+use Rattle.trace_telling.specs.ToText.{fitsIn, textOf, fileStatus}
 
 -- 02 E1 5: the file that a text makes is one that the reader accepts, and it fits the text
 abbrev pub MadeIsRead : Type 0

@@ -1,4 +1,4 @@
--- `board_text::thawonlai_from_text` meets its contract: the answer is that of `trace_text::from_text`, which is what an edit of it must change.
+-- `board_text::thawonlai_from_text` meets its contract: the answer is that of `trace_making::from_text`, which is what an edit of it must change.
 use borrow.Author.Needs.{needs}
 use Rattle.board_text.proofs.thawonlai_from_text.Statement.{statement}
 use Rattle.board_text.proofs.thawonlai_from_text.Tie as tie

@@ -1,4 +1,4 @@
--- `board_text::thawonlai_to_text` meets its contract: the answer is that of `trace_text::to_text`, which is what an edit of it must change.
+-- `board_text::thawonlai_to_text` meets its contract: the answer is that of `trace_telling::to_text`, which is what an edit of it must change.
 use borrow.Author.Needs.{needs}
 use Rattle.board_text.proofs.thawonlai_to_text.Statement.{statement}
 use Rattle.board_text.proofs.thawonlai_to_text.Tie as tie

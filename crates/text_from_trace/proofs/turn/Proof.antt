@@ -1,6 +1,6 @@
 -- `text_from_trace::turn` is safe: the text is a part of the buffer.
 use borrow.Author.Needs.{needs}
-use Rattle.trace_text.proofs.StatusLaws.{told-part}
+use Rattle.trace_telling.proofs.StatusLaws.{told-part}
 use borrow.Author.Needs.{needs}
 use Rattle.text_from_trace.proofs.turn.Statement.{statement}
 use Rattle.text_from_trace.proofs.turn.Tie as tie

@@ -1,6 +1,6 @@
 -- `trace_from_text::turn` is safe: the file is a part of the buffer.
 use borrow.Author.Needs.{needs}
-use Rattle.trace_text.proofs.StatusLaws.{made-part}
+use Rattle.trace_making.proofs.StatusLaws.{made-part}
 use borrow.Author.Needs.{needs}
 use Rattle.trace_from_text.proofs.turn.Statement.{statement}
 use Rattle.trace_from_text.proofs.turn.Tie as tie

@@ -1,0 +1,2 @@
+-- Laws of what comes back.
+mod BackLaws

@@ -1,0 +1,2 @@
+-- What a reader of `trace_back` must believe.
+pub mod Back

@@ -1,0 +1,2 @@
+-- What a reader of `trace_header` must believe.
+pub mod Header
