@@ -36,7 +36,7 @@ fn is_digit(b: u8) -> bool
 
 // The number that stands at a place of a text: at most `most`, with the byte `end` after its last digit. Each digit is judged
 // before it is added, so that no sum passes `most`.
-pub fn decimal_at(text: &[u8], place: usize, most: u64, end: u8) -> Number
+fn decimal_at(text: &[u8], place: usize, most: u64, end: u8) -> Number
     requires { ⌜ 0 < end ⌝ }
     ensures { λ r. ⌜ r ≡ decimalAt most end (now (text .entry)) place ⌝ }
 {
