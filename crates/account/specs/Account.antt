@@ -1,14 +1,11 @@
 -- One sporadic account (01 State 2): capacity, charged time not yet scheduled, activation time, pending replenishments.
 use Prim.Native.Nat.{ℕ}
-use mathlib.Core.Bool.{Bool, cond}
-use mathlib.Core.List.{List}
-use lib.ListN.{take, getD, replicate}
-use lib.Dec.{eqb}
+use mathlib.Core.{Bool.Bool, Bool.cond, List.List}
+use lib.{ListN.take, ListN.getD, ListN.replicate, Dec.eqb}
 use Rattle.records.specs.declared.Parameters.{Parameters}
 pub use Rattle.entries.specs.Entries.{entries}
 use Rattle.sporadic.specs.Rules.{atUpper}
-use Rattle.account.specs.declared.Pending.{Pending}
-use Rattle.account.specs.declared.Account.{Account}
+use Rattle.account.specs.declared.{Pending.Pending, Account.Account}
 
 -- 01 State 2: the due times and the amounts of the pending replenishments
 abbrev pub pendingDues : Pending → List ℕ

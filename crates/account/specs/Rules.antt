@@ -1,16 +1,10 @@
 -- What a rule does to an account: its Effect applied.
 use Prim.Native.Nat.{ℕ, zero, suc, _<_, _^_}
 use mathlib.Core.Bool.{Bool, cond, _&&_}
-use lib.ListN.{getD}
-use lib.Dec.{ltb, leb}
+use lib.{ListN.getD, Dec.ltb, Dec.leb}
 use Rattle.records.specs.declared.Parameters.{Parameters}
-use Rattle.sporadic.specs.declared.Server.{Server}
-use Rattle.sporadic.specs.declared.Place.the-variants.{Stays}
-use Rattle.sporadic.specs.declared.Effect.{Effect}
-use Rattle.sporadic.specs.Rules.{dueOf, blockEffect, wakeEffect, returnEffect}
-use Rattle.account.specs.declared.Pending.{Pending}
-use Rattle.account.specs.declared.Account.{Account}
-use Rattle.account.specs.declared.Outcome.{Outcome}
+use Rattle.sporadic.specs.{declared.Server.Server, declared.Place.the-variants.Stays, declared.Effect.Effect, Rules.dueOf, Rules.blockEffect, Rules.wakeEffect, Rules.returnEffect}
+use Rattle.account.specs.declared.{Pending.Pending, Account.Account, Outcome.Outcome}
 pub use Rattle.entries.specs.Entries.{withoutFirst, countAfter, slotsAfter, Room}
 use Rattle.entries.specs.Entries.{entries}
 

@@ -1,14 +1,11 @@
 -- When an account is sound at a time: the tests of 01's list that speak of one sporadic thread's account.
 use Prim.Native.Nat.{ℕ, _+_}
-use mathlib.Core.Bool.{Bool, false, cond}
-use mathlib.Core.List.{List, [], _∷_}
-use lib.ListN.{length, drop}
-use lib.Dec.{ltb, leb, eqb}
+use mathlib.Core.{Bool.Bool, Bool.false, Bool.cond, List.List, List.[], List._∷_}
+use lib.{ListN.length, ListN.drop, Dec.ltb, Dec.leb, Dec.eqb}
 use Rattle.records.specs.declared.Parameters.{Parameters}
 use Rattle.base.specs.Tests.{all, zeros}
 use Rattle.sporadic.specs.declared.Server.{Server}
-use Rattle.account.specs.declared.Account.{Account}
-use Rattle.account.specs.Account.{entries, pendingDues, pendingAmounts, isUpper}
+use Rattle.account.specs.{declared.Account.Account, Account.entries, Account.pendingDues, Account.pendingAmounts, Account.isUpper}
 
 -- 01 State 10: the sum of the pending amounts
 abbrev pub sum : List ℕ → ℕ

@@ -1,6 +1,5 @@
 -- Refusals are one ordered list of tests, each with the status number that it gives.
-use mathlib.Core.Bool.{Bool, cond, not}
-use mathlib.Core.List.{List, [], _∷_}
+use mathlib.Core.{Bool.Bool, Bool.cond, Bool.not, List.List, List.[], List._∷_}
 use Prim.Native.Nat.{ℕ}
 use lib.Dec.{eqb}
 

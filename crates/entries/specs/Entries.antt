@@ -1,10 +1,7 @@
 -- The slots of an account's pending entries: an entry comes behind the others, and the first one goes.
 use Prim.Native.Nat.{ℕ, _+_, _-_, _<_}
-use mathlib.Core.Bool.{Bool, true, false, cond}
-use mathlib.Core.Path.{_≡_}
-use mathlib.Core.List.{List, [], _∷_, _++_}
-use lib.ListN.{drop, set}
-use lib.Dec.{eqb}
+use mathlib.Core.{Bool.Bool, Bool.true, Bool.false, Bool.cond, Path._≡_, List.List, List.[], List._∷_, List._++_}
+use lib.{ListN.drop, ListN.set, Dec.eqb}
 use Rattle.records.specs.Ranges.{mostReplenishments}
 
 -- how many pending replenishments there are slots for: as many as max_repl allows

@@ -1,10 +1,8 @@
 -- 01 State 3: for each priority 1 to 32 an ordered list of thread numbers, head first.
 -- All lists stand in one array, a row for each: a list's length, its threads in order, and zeros.
-use mathlib.Core.List.{List, [], _∷_, _++_}
-use mathlib.Core.Bool.{cond}
+use mathlib.Core.{List.List, List.[], List._∷_, List._++_, Bool.cond}
 use Prim.Native.Nat.{ℕ, _+_, _-_, _*_}
-use lib.ListN.{length, take, drop, getD, replicate}
-use lib.Dec.{eqb}
+use lib.{ListN.length, ListN.take, ListN.drop, ListN.getD, ListN.replicate, Dec.eqb}
 use Rattle.records.specs.Ranges.{mostThreads, highestPriority}
 
 -- the numbers of a row: a list may hold every thread; and those of all rows

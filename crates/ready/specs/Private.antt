@@ -1,10 +1,7 @@
 -- What the private functions compute, and they alone cite: no public contract does.
-use mathlib.Core.Path.{_≡_}
-use mathlib.Core.Bool.{Bool, true, false, cond}
-use mathlib.Core.List.{List, [], _∷_, _++_}
+use mathlib.Core.{Path._≡_, Bool.Bool, Bool.true, Bool.false, Bool.cond, List.List, List.[], List._∷_, List._++_}
 use Prim.Native.Nat.{ℕ, suc, _+_, _-_}
-use lib.ListN.{take, drop, set, getD}
-use lib.Dec.{leb, eqb}
+use lib.{ListN.take, ListN.drop, ListN.set, ListN.getD, Dec.leb, Dec.eqb}
 use Rattle.base.specs.Tests.{all, zeros}
 use Rattle.records.specs.Ranges.{mostThreads}
 use Rattle.ready.specs.Lists.{size, members, unused}

@@ -1,13 +1,10 @@
 -- What each rule requires of the lists; all of it follows from soundness.
-use mathlib.Core.Path.{_≡_}
-use mathlib.Core.Bool.{true}
-use mathlib.Core.List.{List}
+use mathlib.Core.{Path._≡_, Bool.true, List.List}
 use Prim.Native.Nat.{ℕ, _≤_, _<_}
 use lib.ListN.{length}
 use Rattle.base.specs.Tests.{all, zeros}
 use Rattle.records.specs.Ranges.{mostThreads, highestPriority}
-use Rattle.ready.specs.Lists.{listBytes, rowAt, unused, threads, occurs, removed}
-use Rattle.ready.specs.Word.{sizeAt, occupancy}
+use Rattle.ready.specs.{Lists.listBytes, Lists.rowAt, Lists.unused, Lists.threads, Lists.occurs, Lists.removed, Word.sizeAt, Word.occupancy}
 
 -- list p holds a thread
 pub record Held (p : ℕ) (l : List ℕ) : Type 0 where

@@ -1,14 +1,11 @@
 -- When lists and word are sound for a placement of the threads: place i is the priority in whose list thread i must
 -- stand, 0 for none. The crate above gives a runnable thread the place of its assigned priority, and a blocked one 0.
-use mathlib.Core.Bool.{Bool, cond}
-use mathlib.Core.List.{List, [], _∷_}
+use mathlib.Core.{Bool.Bool, Bool.cond, List.List, List.[], List._∷_}
 use Prim.Native.Nat.{ℕ, suc}
-use lib.ListN.{length}
-use lib.Dec.{ltb, leb, eqb}
+use lib.{ListN.length, Dec.ltb, Dec.leb, Dec.eqb}
 use Rattle.base.specs.Tests.{all, below, zeros}
 use Rattle.records.specs.Ranges.{mostThreads, highestPriority}
-use Rattle.ready.specs.Lists.{listBytes, rowAt, size, members, unused, occurs}
-use Rattle.ready.specs.Word.{occupancy}
+use Rattle.ready.specs.{Lists.listBytes, Lists.rowAt, Lists.size, Lists.members, Lists.unused, Lists.occurs, Word.occupancy}
 
 -- 01 Numbers 1: thread numbers are below the most threads
 abbrev pub small : List ℕ → List Bool

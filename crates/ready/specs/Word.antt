@@ -1,10 +1,7 @@
 -- 01 State 4: the occupancy word, and the highest list that holds a thread.
-use mathlib.Core.List.{List}
-use mathlib.Core.Bool.{cond}
-use mathlib.Core.Path.{_≡_}
+use mathlib.Core.{List.List, Bool.cond, Path._≡_}
 use Prim.Native.Nat.{ℕ, zero, suc, _+_, _-_, _^_, _/_, _%_, _≤_}
-use lib.Count.{leadingZeros}
-use lib.Dec.{eqb}
+use lib.{Count.leadingZeros, Dec.eqb}
 use Rattle.records.specs.Ranges.{highestPriority}
 use Rattle.ready.specs.Lists.{rowAt, size}
 

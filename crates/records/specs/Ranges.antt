@@ -1,10 +1,8 @@
 -- The ranges of 01's section Numbers, and when parameters are in range.
-use mathlib.Core.Bool.{Bool}
-use mathlib.Core.List.{[], _∷_}
+use mathlib.Core.{Bool.Bool, List.[], List._∷_}
 use Prim.Native.Nat.{ℕ, zero, suc}
 use lib.Dec.{ltb, leb, eqb}
-use Rattle.records.specs.declared.Parameters.{Parameters}
-use Rattle.records.specs.declared.Header.{Header}
+use Rattle.records.specs.declared.{Parameters.Parameters, Header.Header}
 use Rattle.base.specs.Tests.{all}
 
 -- 01 Numbers 1: at most 32 threads; thread numbers start at 0
@@ -43,36 +41,23 @@ fifoInRange p = all (eqb (p .low) 0 ∷ eqb (p .«max_repl») 0 ∷ eqb (p .budg
 
 -- 01 Numbers 9 and 10: SCHED_RR has a quantum, kept in the field `budget`
 unfoldable pub rrInRange : Parameters → Bool
-rrInRange p =
-    all
-    (eqb (p .low) 0
-    ∷ eqb (p .«max_repl») 0
-    ∷ leb 1 (p .budget)
-    ∷ leb (p .budget) mostTicks
-    ∷ eqb (p .period) 0
-    ∷ [])
+rrInRange p = all (eqb (p .low) 0 ∷ eqb (p .«max_repl») 0 ∷ leb 1 (p .budget) ∷ leb (p .budget) mostTicks ∷ eqb (p .period) 0 ∷ [])
 
 -- 01 Numbers 8: SCHED_SPORADIC has low below priority, max_repl up to `most`, and a budget of at most the period
 unfoldable pub sporadicInRange : ℕ → Parameters → Bool
 sporadicInRange most p =
     all
-    (leb 1 (p .low)
-    ∷ ltb (p .low) (p .priority)
-    ∷ leb 1 (p .«max_repl»)
-    ∷ leb (p .«max_repl») most
-    ∷ leb 1 (p .budget)
-    ∷ leb (p .budget) (p .period)
-    ∷ leb (p .period) mostTicks
+    (leb 1 (p .low) ∷ ltb (p .low) (p .priority)
+    ∷ leb 1 (p .«max_repl») ∷ leb (p .«max_repl») most
+    ∷ leb 1 (p .budget) ∷ leb (p .budget) (p .period) ∷ leb (p .period) mostTicks
     ∷ [])
 
 -- 01 Status 7: parameters in range. The start flag has its own test where it is judged.
 unfoldable pub inRange : ℕ → Parameters → Bool
 inRange most p =
     all
-    (leb 1 (p .priority)
-    ∷ leb (p .priority) highestPriority
-    ∷ leb (p .policy) 2
-    ∷ byPolicy (p .policy) (fifoInRange p) (rrInRange p) (sporadicInRange most p)
+    (leb 1 (p .priority) ∷ leb (p .priority) highestPriority
+    ∷ leb (p .policy) 2 ∷ byPolicy (p .policy) (fifoInRange p) (rrInRange p) (sporadicInRange most p)
     ∷ [])
 
 -- 01 Status 7: no parameter other than 0, the start flag included

@@ -4,10 +4,7 @@ use Prim.Native.Nat.{ℕ, _+_, _-_, min}
 use mathlib.Core.Bool.{Bool, true, false, cond, not, _&&_}
 use lib.Dec.{ltb, leb, eqb}
 use Rattle.records.specs.declared.Parameters.{Parameters}
-use Rattle.sporadic.specs.declared.Server.{Server}
-use Rattle.sporadic.specs.declared.Place.{Place}
-use Rattle.sporadic.specs.declared.Place.the-variants.{Stays, Low, LowThenUpper, Upper}
-use Rattle.sporadic.specs.declared.Effect.{Effect}
+use Rattle.sporadic.specs.declared.{Server.Server, Place.Place, Place.the-variants.Stays, Place.the-variants.Low, Place.the-variants.LowThenUpper, Place.the-variants.Upper, Effect.Effect}
 
 -- ---- the server
 

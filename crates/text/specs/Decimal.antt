@@ -1,10 +1,7 @@
 -- Numbers in decimal.
 use Prim.Native.Nat.{ℕ, zero, suc, _+_, _*_, _-_, _/_, _%_, _<_, _^_, _≤_}
-use mathlib.Core.Bool.{cond}
-use mathlib.Core.List.{List, [], _∷_, _++_}
-use mathlib.Core.Path.{_≡_}
-use lib.Dec.{ltb}
-use lib.ListN.{length, getD}
+use mathlib.Core.{Bool.cond, List.List, List.[], List._∷_, List._++_, Path._≡_}
+use lib.{Dec.ltb, ListN.length, ListN.getD}
 
 -- the byte of the digit 0, after which the other digits stand in their order
 abbrev pub digitZero : ℕ

@@ -1,7 +1,6 @@
 -- Bytes at an offset of a buffer.
 use Prim.Native.Nat.{ℕ, _+_}
-use mathlib.Core.List.{List, _++_}
-use mathlib.Core.Path.{_≡_}
+use mathlib.Core.{List.List, List._++_, Path._≡_}
 use lib.ListN.{length, take, drop}
 
 -- the buffer o with the bytes v at an offset; every other byte is kept
