@@ -1,7 +1,6 @@
 -- A replay of some of a file's events, over the steps of `replay_steps`.
 use Prim.Native.Nat.{ℕ}
-use mathlib.Core.Bool.{cond}
-use mathlib.Core.List.{List, [], _∷_}
+use mathlib.Core.{Bool.cond, List.List, List.[], List._∷_}
 use lib.Dec.{eqb}
 use Rattle.trace_reader.specs.Reader.{firstOffset}
 use Rattle.events.specs.Opening.{noState}

@@ -1,8 +1,7 @@
 -- What the exported functions of the trace file answer.
 use Prim.Native.Nat.{ℕ}
 use mathlib.Core.List.{List}
-use Rattle.trace_contents.specs.declared.Contents.{Contents}
-use Rattle.trace_contents.specs.Read.{contentsOf}
+use Rattle.trace_contents.specs.{declared.Contents.Contents, Read.contentsOf}
 use Rattle.board_trace.specs.declared.Found.{Found}
 
 -- 01 Trace 6: a read without its table

@@ -1,17 +1,12 @@
 -- The answer to an event, as the machine that `passing` speaks of.
 use Prim.Native.Nat.{ℕ}
-use mathlib.Core.Bool.{Bool, cond, not, _&&_}
-use mathlib.Core.List.{[], _∷_}
+use mathlib.Core.{Bool.Bool, Bool.cond, Bool.not, Bool._&&_, List.[], List._∷_}
 use lib.Dec.{ltb, leb, eqb}
-use Rattle.records.specs.declared.Event.{Event}
-use Rattle.records.specs.Ranges.{mostReplenishments, lastTime, longestStep, inRange, allZero, noParameters}
-use Rattle.base.specs.Status.{wrongKind, wrongThread, wrongParameters, nothingRuns, notBlocked}
-use Rattle.base.specs.Refusals.{firstRefusal}
+use Rattle.records.specs.{declared.Event.Event, Ranges.mostReplenishments, Ranges.lastTime, Ranges.longestStep, Ranges.inRange, Ranges.allZero, Ranges.noParameters}
+use Rattle.base.specs.{Status.wrongKind, Status.wrongThread, Status.wrongParameters, Status.nothingRuns, Status.notBlocked, Refusals.firstRefusal}
 use Rattle.passing.specs.Sequence.{Machine}
-use Rattle.state.specs.declared.State.{State}
-use Rattle.state.specs.State.{threadAt}
+use Rattle.state.specs.{declared.State.State, State.threadAt, Sound.soundState}
 use Rattle.thread.specs.Thread.{isBlocked}
-use Rattle.state.specs.Sound.{soundState}
 use Rattle.ticks.specs.Running.{idles, running}
 use Rattle.moments.specs.Moments.{clock}
 use Rattle.events.specs.Events.{happened}

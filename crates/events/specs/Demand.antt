@@ -1,23 +1,14 @@
 -- Demand 3 at the executive, and what every accepted answer leaves.
 use Prim.Native.Nat.{ℕ, _+_, _≤_, _<_}
-use mathlib.Core.Bool.{true, false}
-use mathlib.Core.Path.{_≡_}
-use mathlib.Core.List.{List, []}
+use mathlib.Core.{Bool.true, Bool.false, Path._≡_, List.List, List.[]}
 use lib.ListN.{length}
-use Rattle.records.specs.declared.Parameters.{Parameters}
-use Rattle.records.specs.declared.Header.{Header}
-use Rattle.records.specs.declared.Event.{Event}
-use Rattle.records.specs.Ranges.{highestPriority, lastTime}
+use Rattle.records.specs.{declared.Parameters.Parameters, declared.Header.Header, declared.Event.Event, Ranges.highestPriority, Ranges.lastTime}
 use Rattle.ready.specs.Lists.{threads, headOf}
-use Rattle.passing.specs.Time.{dueBy, chargeTo, moment}
-use Rattle.passing.specs.Sequence.{status, answer}
-use Rattle.passing.specs.Readings.{ExtraReadings}
-use Rattle.state.specs.declared.State.{State}
-use Rattle.state.specs.Sound.{totals, soundState}
+use Rattle.passing.specs.{Time.dueBy, Time.chargeTo, Time.moment, Sequence.status, Sequence.answer, Readings.ExtraReadings}
+use Rattle.state.specs.{declared.State.State, Sound.totals, Sound.soundState}
 use Rattle.ticks.specs.Running.{level, running, next}
 use Rattle.moments.specs.Moments.{clock, passed}
-use Rattle.events.specs.Answers.{executive}
-use Rattle.events.specs.Opening.{opening}
+use Rattle.events.specs.{Answers.executive, Opening.opening}
 
 -- 01 Readings 1 to 13: extra clock readings before accepted events change no answer and no field of the end state
 abbrev pub ReadingsChangeNothing : Type 0

@@ -1,22 +1,12 @@
 -- What each kind of event does to the state at its time (01 Events 2 to 6): one thread changes, with its account and its list.
 use Prim.Native.Nat.{ℕ, zero, suc}
-use mathlib.Core.Bool.{true, false, cond}
-use mathlib.Core.List.{List}
-use lib.Dec.{leb, eqb}
-use lib.ListN.{replicate}
-use Rattle.records.specs.declared.Parameters.{Parameters}
-use Rattle.records.specs.declared.Event.{Event}
-use Rattle.records.specs.Ranges.{byPolicy}
-use Rattle.records.specs.Kinds.{byKind}
-use Rattle.account.specs.declared.Account.{Account}
-use Rattle.account.specs.Account.{entries, freshAccount}
-use Rattle.account.specs.Rules.{blocking, waking}
+use mathlib.Core.{Bool.true, Bool.false, Bool.cond, List.List}
+use lib.{Dec.leb, Dec.eqb, ListN.replicate}
+use Rattle.records.specs.{declared.Parameters.Parameters, declared.Event.Event, Ranges.byPolicy, Kinds.byKind}
+use Rattle.account.specs.{declared.Account.Account, Account.entries, Account.freshAccount, Rules.blocking, Rules.waking}
 use Rattle.ready.specs.Lists.{appended, removed, moved}
-use Rattle.thread.specs.declared.Thread.{Thread}
-use Rattle.state.specs.declared.State.{State}
-use Rattle.state.specs.State.{threadAt, accountAt}
-use Rattle.thread.specs.Thread.{noServer, placeOf, withBlocked, withServer, fullQuantum, renewed}
-use Rattle.state.specs.Updates.{withLists, withAccount}
+use Rattle.thread.specs.{declared.Thread.Thread, Thread.noServer, Thread.placeOf, Thread.withBlocked, Thread.withServer, Thread.fullQuantum, Thread.renewed}
+use Rattle.state.specs.{declared.State.State, State.threadAt, State.accountAt, Updates.withLists, Updates.withAccount}
 use Rattle.ticks.specs.Running.{head}
 use Rattle.events.specs.declared.Change.{Change}
 

@@ -1,24 +1,15 @@
 -- Opening a state from a table of threads.
 use Prim.Native.Nat.{ℕ, zero, suc}
-use mathlib.Core.Bool.{cond, not, _&&_}
-use mathlib.Core.List.{List, [], _∷_}
-use lib.ListN.{getD, replicate}
-use lib.Dec.{ltb, leb, eqb}
-use Rattle.records.specs.declared.Parameters.{Parameters}
-use Rattle.records.specs.declared.Header.{Header}
-use Rattle.base.specs.Status.{wrongThread, pastLastTime, wrongParameters}
-use Rattle.base.specs.Tests.{below}
-use Rattle.records.specs.Ranges.{mostThreads, mostReplenishments, lastTime, inRange, noParameters, noHeader}
+use mathlib.Core.{Bool.cond, Bool.not, Bool._&&_, List.List, List.[], List._∷_}
+use lib.{ListN.getD, ListN.replicate, Dec.ltb, Dec.leb, Dec.eqb}
+use Rattle.records.specs.{declared.Parameters.Parameters, declared.Header.Header, Ranges.mostThreads, Ranges.mostReplenishments, Ranges.lastTime, Ranges.inRange, Ranges.noParameters, Ranges.noHeader}
+use Rattle.base.specs.{Status.wrongThread, Status.pastLastTime, Status.wrongParameters, Tests.below, Refusals.firstRefusal}
 use Rattle.ready.specs.Lists.{listBytes, appended}
-use Rattle.base.specs.Refusals.{firstRefusal}
 use Rattle.rows.specs.Rows.{allSlots}
 use Rattle.passing.specs.Sequence.{Answer, accepted}
-use Rattle.state.specs.declared.State.{State}
-use Rattle.state.specs.State.{threadAt}
+use Rattle.state.specs.{declared.State.State, State.threadAt, Updates.withLists, Updates.withAccount, Updates.stateOf}
 use Rattle.thread.specs.Thread.{noThread, renewed, withBlocked}
-use Rattle.events.specs.Events.{newAccount}
-use Rattle.state.specs.Updates.{withLists, withAccount, stateOf}
-use Rattle.events.specs.Answers.{executive}
+use Rattle.events.specs.{Events.newAccount, Answers.executive}
 
 -- a state of so many threads, none of them there yet, at the start time
 abbrev pub emptyState : Header → State

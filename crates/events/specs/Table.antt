@@ -1,21 +1,14 @@
 -- The worked table: the replay's seven events and the rows of 01 that are marked to be proved (01 Replay 1 to 6, 01 Instances 1 to 11).
 use Prim.Native.Nat.{ℕ, zero, suc, _-_}
-use mathlib.Core.Path.{_≡_}
-use mathlib.Core.Bool.{cond}
-use mathlib.Core.List.{List, [], _∷_, _++_, map}
-use lib.ListN.{length, drop, getD}
-use lib.Dec.{eqb}
-use Rattle.records.specs.declared.Parameters.{Parameters}
-use Rattle.records.specs.declared.Event.{Event}
+use mathlib.Core.{Path._≡_, Bool.cond, List.List, List.[], List._∷_, List._++_, List.map}
+use lib.{ListN.length, ListN.take, ListN.drop, ListN.getD, Dec.eqb}
+use Rattle.records.specs.{declared.Parameters.Parameters, declared.Event.Event, Ranges.noParameters}
 use Rattle.account.specs.Account.{pendingDues, pendingAmounts}
 use Rattle.ready.specs.Lists.{threads, occurs}
 use Rattle.passing.specs.Sequence.{Answer, answers}
-use Rattle.state.specs.declared.State.{State}
-use Rattle.records.specs.Ranges.{noParameters}
-use Rattle.state.specs.State.{threadAt, pendingAt}
+use Rattle.state.specs.{declared.State.State, State.threadAt, State.pendingAt}
 use Rattle.thread.specs.Thread.{assigned}
-use Rattle.events.specs.Answers.{executive, reading}
-use Rattle.events.specs.Opening.{opening}
+use Rattle.events.specs.{Answers.executive, Answers.reading, Opening.opening}
 
 -- what the table says of a thread: capacity, assigned priority, the list in which it stands (0 for none), activation time, pending
 -- entries, total
@@ -119,40 +112,23 @@ two = sporadic 1 10 40 2 ∷ fifo 1 10 ∷ []
 abbrev pub other : ℕ → ℕ → ℕ → Seen
 other priority list total = at 0 priority list 0 [] [] total
 
+-- 01 Replay 4 and 5: its events, and the entry of the first k of them
+abbrev pub replayed : List Event
+replayed = clockAt 4 ∷ blockAt 6 ∷ wakeAt 15 0 ∷ clockAt 25 ∷ clockAt 40 ∷ clockAt 46 ∷ clockAt 45 ∷ []
+
+abbrev pub upTo : ℕ → Shown → Entry
+upTo k x = record { table = two; events = take k replayed; last = x ∷ [] }
+
 -- 01 Replay 4 to 6: one entry for each of the seven events
 abbrev pub replay : List Entry
 replay =
-    record { table = two; events = clockAt 4 ∷ []; last = says 0 0 10 (at 6 20 20 0 [] [] 4 ∷ other 10 10 0 ∷ []) 0 ∷ [] }
-    ∷ record {
-      table = two;
-      events = clockAt 4 ∷ blockAt 6 ∷ [];
-      last = says 0 1 40 (at 4 20 0 0 (40 ∷ []) (6 ∷ []) 6 ∷ other 10 10 0 ∷ []) 0 ∷ [];
-    }
-    ∷ record {
-      table = two;
-      events = clockAt 4 ∷ blockAt 6 ∷ wakeAt 15 0 ∷ [];
-      last = says 0 0 19 (at 4 20 20 15 (40 ∷ []) (6 ∷ []) 6 ∷ other 10 10 9 ∷ []) 0 ∷ [];
-    }
-    ∷ record {
-      table = two;
-      events = clockAt 4 ∷ blockAt 6 ∷ wakeAt 15 0 ∷ clockAt 25 ∷ [];
-      last = says 0 1 40 (at 0 5 5 15 (40 ∷ 55 ∷ []) (6 ∷ 4 ∷ []) 10 ∷ other 10 10 15 ∷ []) 0 ∷ [];
-    }
-    ∷ record {
-      table = two;
-      events = clockAt 4 ∷ blockAt 6 ∷ wakeAt 15 0 ∷ clockAt 25 ∷ clockAt 40 ∷ [];
-      last = says 0 0 46 (at 6 20 20 40 (55 ∷ []) (4 ∷ []) 10 ∷ other 10 10 30 ∷ []) 0 ∷ [];
-    }
-    ∷ record {
-      table = two;
-      events = clockAt 4 ∷ blockAt 6 ∷ wakeAt 15 0 ∷ clockAt 25 ∷ clockAt 40 ∷ clockAt 46 ∷ [];
-      last = says 0 1 55 (at 0 5 5 40 (55 ∷ 80 ∷ []) (4 ∷ 6 ∷ []) 16 ∷ other 10 10 30 ∷ []) 0 ∷ [];
-    }
-    ∷ record {
-      table = two;
-      events = clockAt 4 ∷ blockAt 6 ∷ wakeAt 15 0 ∷ clockAt 25 ∷ clockAt 40 ∷ clockAt 46 ∷ clockAt 45 ∷ [];
-      last = says 1 1 55 (at 0 5 5 40 (55 ∷ 80 ∷ []) (4 ∷ 6 ∷ []) 16 ∷ other 10 10 30 ∷ []) 0 ∷ [];
-    }
+    upTo 1 (says 0 0 10 (at 6 20 20 0 [] [] 4 ∷ other 10 10 0 ∷ []) 0)
+    ∷ upTo 2 (says 0 1 40 (at 4 20 0 0 (40 ∷ []) (6 ∷ []) 6 ∷ other 10 10 0 ∷ []) 0)
+    ∷ upTo 3 (says 0 0 19 (at 4 20 20 15 (40 ∷ []) (6 ∷ []) 6 ∷ other 10 10 9 ∷ []) 0)
+    ∷ upTo 4 (says 0 1 40 (at 0 5 5 15 (40 ∷ 55 ∷ []) (6 ∷ 4 ∷ []) 10 ∷ other 10 10 15 ∷ []) 0)
+    ∷ upTo 5 (says 0 0 46 (at 6 20 20 40 (55 ∷ []) (4 ∷ []) 10 ∷ other 10 10 30 ∷ []) 0)
+    ∷ upTo 6 (says 0 1 55 (at 0 5 5 40 (55 ∷ 80 ∷ []) (4 ∷ 6 ∷ []) 16 ∷ other 10 10 30 ∷ []) 0)
+    ∷ upTo 7 (says 1 1 55 (at 0 5 5 40 (55 ∷ 80 ∷ []) (4 ∷ 6 ∷ []) 16 ∷ other 10 10 30 ∷ []) 0)
     ∷ []
 
 -- 01 Instances 3 to 11

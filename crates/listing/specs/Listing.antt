@@ -1,14 +1,10 @@
 -- The listing of a file, and what writing it into a lent buffer answers and leaves.
 use Prim.Native.Nat.{ℕ, _<_}
-use mathlib.Core.Bool.{cond}
-use mathlib.Core.List.{List, _++_}
-use mathlib.Core.Path.{_≡_}
-use lib.Dec.{leb, eqb}
-use lib.ListN.{length, drop}
+use mathlib.Core.{Bool.cond, List.List, List._++_, Path._≡_}
+use lib.{Dec.leb, Dec.eqb, ListN.length, ListN.drop}
 use Rattle.trace_records.specs.Layout.{longestFile}
 use Rattle.replay_steps.specs.FileSteps.{begunOf, answersTo, closing}
-use Rattle.listing.specs.declared.Listed.{Listed}
-use Rattle.listing.specs.Lines.{headerLine, eventLines, threadLines, idleLine, refusedLine}
+use Rattle.listing.specs.{declared.Listed.Listed, Lines.headerLine, Lines.eventLines, Lines.threadLines, Lines.idleLine, Lines.refusedLine}
 
 -- a file that is replayed: the header line, a line for each event, a line for each thread of the state that the last event left, the idle line
 unfoldable pub replayOf : List ℕ → List ℕ

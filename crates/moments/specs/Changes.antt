@@ -2,14 +2,10 @@
 use Prim.Native.Nat.{ℕ}
 use mathlib.Core.List.{List}
 use Rattle.records.specs.declared.Parameters.{Parameters}
-use Rattle.sporadic.specs.declared.Place.{Place}
-use Rattle.sporadic.specs.declared.Place.the-variants.{Stays, Low, LowThenUpper, Upper}
-use Rattle.sporadic.specs.declared.Effect.{Effect}
+use Rattle.sporadic.specs.declared.{Place.Place, Place.the-variants.Stays, Place.the-variants.Low, Place.the-variants.LowThenUpper, Place.the-variants.Upper, Effect.Effect}
 use Rattle.account.specs.Rules.{applied}
 use Rattle.ready.specs.Lists.{moved}
-use Rattle.state.specs.declared.State.{State}
-use Rattle.state.specs.State.{threadAt, accountAt}
-use Rattle.state.specs.Updates.{withLists, withAccount}
+use Rattle.state.specs.{declared.State.State, State.threadAt, State.accountAt, Updates.withLists, Updates.withAccount}
 
 -- where an account's rule sends a runnable thread: Low and Upper are the tails of its two lists
 abbrev pub sentTo : Place → ℕ → Parameters → List ℕ → List ℕ

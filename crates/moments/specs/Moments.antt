@@ -1,20 +1,16 @@
 -- What happens at a moment, and the passing of time.
 use Prim.Native.Nat.{ℕ, zero, suc}
 use mathlib.Core.Bool.{false, cond, _&&_}
-use lib.ListN.{getD}
-use lib.Dec.{eqb}
+use lib.{ListN.getD, Dec.eqb}
 use Rattle.records.specs.Ranges.{byPolicy}
 use Rattle.account.specs.Rules.{firstIsDue, returnFirst}
 use Rattle.sporadic.specs.Rules.{limitEffect}
 use Rattle.ready.specs.Lists.{moved}
 use Rattle.passing.specs.Time.{Clock, advance}
-use Rattle.thread.specs.declared.Thread.{Thread}
-use Rattle.state.specs.declared.State.{State}
-use Rattle.state.specs.State.{threadAt, pendingAt, accountAt}
-use Rattle.thread.specs.Thread.{isBlocked, withLeft}
+use Rattle.thread.specs.{declared.Thread.Thread, Thread.isBlocked, Thread.withLeft}
+use Rattle.state.specs.{declared.State.State, State.threadAt, State.pendingAt, State.accountAt, Updates.withThread, Updates.withLists}
 use Rattle.ticks.specs.Running.{level, head, idles, charge, next}
 use Rattle.moments.specs.Changes.{withEffect}
-use Rattle.state.specs.Updates.{withThread, withLists}
 
 -- 01 Passing 7: the quantum has ended: the tail of its list p, with a full quantum
 abbrev pub quantumEnded : ℕ → ℕ → Thread → State → State

@@ -1,20 +1,15 @@
 -- When a state is sound (01 State 5 to 17), as tests that compute.
 use Prim.Native.Nat.{ℕ, _+_}
-use mathlib.Core.Bool.{Bool, cond}
-use mathlib.Core.List.{List, [], _∷_, _++_}
-use lib.ListN.{length}
-use lib.Dec.{ltb, leb, eqb}
+use mathlib.Core.{Bool.Bool, Bool.cond, List.List, List.[], List._∷_, List._++_}
+use lib.{ListN.length, Dec.ltb, Dec.leb, Dec.eqb}
 use Rattle.base.specs.Tests.{all, below, zeros}
 use Rattle.records.specs.Ranges.{byPolicy, mostThreads, mostReplenishments, lastTime, inRange, allZero}
 use Rattle.sporadic.specs.declared.Server.{Server}
-use Rattle.account.specs.declared.Pending.{Pending}
-use Rattle.account.specs.Sound.{soundAt}
+use Rattle.account.specs.{declared.Pending.Pending, Sound.soundAt}
 use Rattle.ready.specs.Sound.{soundLists}
 use Rattle.rows.specs.Rows.{allSlots}
-use Rattle.thread.specs.declared.Thread.{Thread}
-use Rattle.state.specs.declared.State.{State}
-use Rattle.state.specs.State.{threadAt, pendingAt, place}
-use Rattle.thread.specs.Thread.{isBlocked}
+use Rattle.thread.specs.{declared.Thread.Thread, Thread.isBlocked}
+use Rattle.state.specs.{declared.State.State, State.threadAt, State.pendingAt, State.place}
 
 -- 01 State 17: no capacity, no U and no activation time
 abbrev pub serverTests : Server → List Bool

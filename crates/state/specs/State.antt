@@ -1,12 +1,10 @@
 -- The state (01 State 1 to 4) and its parts.
 use Prim.Native.Nat.{ℕ}
 use lib.ListN.{getD}
-use Rattle.account.specs.declared.Pending.{Pending}
-use Rattle.account.specs.declared.Account.{Account}
+use Rattle.account.specs.declared.{Pending.Pending, Account.Account}
 use Rattle.rows.specs.Rows.{pendingOf}
-use Rattle.thread.specs.declared.Thread.{Thread}
+use Rattle.thread.specs.{declared.Thread.Thread, Thread.noThread, Thread.placeOf}
 use Rattle.state.specs.declared.State.{State}
-use Rattle.thread.specs.Thread.{noThread, placeOf}
 
 -- 01 State 2: thread i
 abbrev pub threadAt : State → ℕ → Thread

@@ -6,24 +6,13 @@ use Rattle.records.specs.declared.Header.{Header}
 use Rattle.account.specs.declared.Account.{Account}
 use Rattle.ready.specs.Word.{occupancy}
 use Rattle.rows.specs.Rows.{withSlots}
-use Rattle.thread.specs.declared.Thread.{Thread}
-use Rattle.thread.specs.Thread.{withServer}
+use Rattle.thread.specs.{declared.Thread.Thread, Thread.withServer}
 use Rattle.state.specs.declared.State.{State}
 use Rattle.state.specs.declared.Core.{Core}
 
 abbrev pub stateOf : Header → ℕ → ℕ → ℕ → List Thread → List ℕ → List ℕ → List ℕ → List ℕ → State
 stateOf header now idle word threads counts dues amounts lists =
-    record {
-      header = header;
-      now = now;
-      idle = idle;
-      word = word;
-      threads = threads;
-      counts = counts;
-      dues = dues;
-      amounts = amounts;
-      lists = lists;
-    }
+    record { header = header; now = now; idle = idle; word = word; threads = threads; counts = counts; dues = dues; amounts = amounts; lists = lists }
 
 -- a state of a core and its slots
 abbrev pub whole : Core → List ℕ → List ℕ → State

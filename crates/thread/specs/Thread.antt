@@ -2,10 +2,8 @@
 use Prim.Native.Nat.{ℕ}
 use mathlib.Core.Bool.{Bool, cond}
 use lib.Dec.{ltb}
-use Rattle.records.specs.declared.Parameters.{Parameters}
-use Rattle.records.specs.Ranges.{byPolicy, noParameters}
-use Rattle.sporadic.specs.declared.Server.{Server}
-use Rattle.sporadic.specs.Rules.{atUpper}
+use Rattle.records.specs.{declared.Parameters.Parameters, Ranges.byPolicy, Ranges.noParameters}
+use Rattle.sporadic.specs.{declared.Server.Server, Rules.atUpper}
 use Rattle.thread.specs.declared.Thread.{Thread}
 
 abbrev pub threadOf : Parameters → ℕ → ℕ → ℕ → Server → Thread
@@ -17,9 +15,6 @@ withParameters p t = threadOf p (t .blocked) (t .total) (t .left) (t .server)
 -- blocked (1) or runnable (0)
 abbrev pub withBlocked : ℕ → Thread → Thread
 withBlocked b t = threadOf (t .parameters) b (t .total) (t .left) (t .server)
-
-abbrev pub withTotal : ℕ → Thread → Thread
-withTotal n t = threadOf (t .parameters) (t .blocked) n (t .left) (t .server)
 
 abbrev pub withLeft : ℕ → Thread → Thread
 withLeft n t = threadOf (t .parameters) (t .blocked) (t .total) n (t .server)
