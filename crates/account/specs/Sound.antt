@@ -34,11 +34,9 @@ dueEnd now up p s = cond up (s .activation) now + p .period
 -- 01 State 11 to 13: the count, U of a thread that is blocked or low, the activation time, and U against it
 abbrev pub numberTests : ℕ → ℕ → Bool → Parameters → Server → ℕ → List Bool
 numberTests start now up p s count =
-    leb count (p .«max_repl»)
-    ∷ leb count entries
+    leb count (p .«max_repl») ∷ leb count entries
     ∷ eqb (cond up 0 (s .used)) 0
-    ∷ leb start (s .activation)
-    ∷ leb (s .activation + s .used) now
+    ∷ leb start (s .activation) ∷ leb (s .activation + s .used) now
     ∷ []
 
 -- 01 State 10 and 12: the sum of capacity, U and the pending amounts is the budget

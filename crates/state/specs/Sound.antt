@@ -68,14 +68,10 @@ totals (t ∷ ts) = t .total + totals ts
 -- The arrays have the lengths that their types say.
 abbrev pub soundTests : State → List Bool
 soundTests s =
-    leb 1 (s .header .n)
-    ∷ leb (s .header .n) mostThreads
-    ∷ leb (s .header .start) (s .now)
-    ∷ leb (s .now) lastTime
-    ∷ eqb (length (s .threads)) mostThreads
-    ∷ eqb (length (s .counts)) mostThreads
-    ∷ eqb (length (s .dues)) allSlots
-    ∷ eqb (length (s .amounts)) allSlots
+    leb 1 (s .header .n) ∷ leb (s .header .n) mostThreads
+    ∷ leb (s .header .start) (s .now) ∷ leb (s .now) lastTime
+    ∷ eqb (length (s .threads)) mostThreads ∷ eqb (length (s .counts)) mostThreads
+    ∷ eqb (length (s .dues)) allSlots ∷ eqb (length (s .amounts)) allSlots
     ∷ below mostThreads (threadTest s)
     ∷ soundLists (place s) (s .word) (s .lists)
     ∷ eqb (s .header .start + totals (s .threads) + s .idle) (s .now)

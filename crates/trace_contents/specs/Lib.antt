@@ -1,3 +1,2 @@
 -- What a reader of `trace_contents` must believe.
-pub mod Lists
 pub mod Read

@@ -22,9 +22,8 @@ use Rattle.trace_lines.proofs.RoundTrips.{line-is-read, only-lines-are-read, li
 use Rattle.trace_records.specs.Layout.{threadOffset, eventOffset, totalOf}
 use Rattle.trace_records.specs.Records.{fieldsOf, headerBytes, parametersAt, parametersBytes, eventAt, eventBytes, noEvent, ParametersFit, EventFits}
 use Rattle.trace_contents.specs.declared.Contents.{Contents}
-use Rattle.trace_contents.specs.Lists.{listOf}
 use Rattle.trace_header.specs.Header.{countRight}
-use Rattle.trace_contents.specs.Read.{readStatus, tableOf, contentsOf, eventsOf as fileEvents}
+use Rattle.trace_contents.specs.Read.{listOf, readStatus, tableOf, contentsOf, eventsOf as fileEvents}
 use Rattle.base.specs.Refusals.{firstRefusal}
 use Rattle.trace_contents.proofs.ListLaws.{length-list, list-at, list-same}
 use Rattle.trace_contents.proofs.ReadLaws.{accepted, contents, contents-accepted, contents-status}
