@@ -13,7 +13,12 @@ slots-after-requires-2 : tie.Need-slots-after-requires-2
 slots-after-requires-2 c κs = search needs
 
 returns : tie.Need-returns
-returns c = cc
+returns c =
+    λ i.
+    record {
+      server = c .before .before .before .before .before .before .before .args .e .server;
+      pending = record { count = c .before .before .count-after .ensures i; dues = c .before .slots-after .ensures i; amounts = c .slots-after2 .ensures i };
+    }
 
 pub apply-spec : {M : Type 1} → statement M
 apply-spec =
