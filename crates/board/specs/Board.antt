@@ -2,10 +2,8 @@
 use Prim.Native.Nat.{ℕ}
 use mathlib.Core.List.{List}
 use Rattle.passing.specs.Sequence.{Answer}
-use Rattle.state.specs.declared.State.{State}
-use Rattle.state.specs.Updates.{whole}
-use Rattle.board.specs.declared.Reply.{Reply}
-use Rattle.board.specs.declared.Done.{Done}
+use Rattle.state.specs.{declared.State.State, Updates.whole}
+use Rattle.board.specs.declared.{Reply.Reply, Done.Done}
 
 -- 01 Events 8: a reply is an answer without its state, which is left where it was lent
 abbrev pub replied : Reply → State → Answer State

@@ -2,8 +2,7 @@
 use Prim.Native.Nat.{ℕ}
 use mathlib.Core.List.{List}
 use Rattle.passing.specs.Sequence as sequence
-use Rattle.state.specs.declared.State.{State}
-use Rattle.state.specs.Updates.{whole}
+use Rattle.state.specs.{declared.State.State, Updates.whole}
 use Rattle.executive.specs.declared.Answer.{Answer}
 
 -- 01 Events 8: status, running thread, next moment, and the state: the answer's core with the slots as they then are

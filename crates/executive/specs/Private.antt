@@ -1,16 +1,12 @@
 -- What only private functions promise: the statuses of an event in the order in which the code judges them, and the two forms of an answer.
 use Prim.Native.Nat.{ℕ, _+_}
-use mathlib.Core.Bool.{Bool}
-use mathlib.Core.List.{[], _∷_}
+use mathlib.Core.{Bool.Bool, List.[], List._∷_}
 use lib.Dec.{ltb, eqb}
-use Rattle.records.specs.declared.Event.{Event}
-use Rattle.records.specs.Ranges.{lastTime, longestStep}
+use Rattle.records.specs.{declared.Event.Event, Ranges.lastTime, Ranges.longestStep}
 use Rattle.ready.specs.Word.{highestOf}
-use Rattle.base.specs.Status.{pastLastTime, beforeNow, stepTooLong}
-use Rattle.base.specs.Refusals.{firstRefusal, given}
+use Rattle.base.specs.{Status.pastLastTime, Status.beforeNow, Status.stepTooLong, Refusals.firstRefusal, Refusals.given}
 use Rattle.passing.specs.Sequence as sequence
-use Rattle.state.specs.declared.State.{State}
-use Rattle.state.specs.declared.Core.{Core}
+use Rattle.state.specs.declared.{State.State, Core.Core}
 use Rattle.ticks.specs.Running.{running, next}
 use Rattle.events.specs.Answers.{fieldStatusOf, stateStatusOf}
 use Rattle.executive.specs.declared.Answer.{Answer}

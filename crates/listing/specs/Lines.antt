@@ -3,8 +3,7 @@ use Prim.Native.Nat.{ℕ, suc}
 use mathlib.Core.List.{List, [], _∷_, _++_}
 use lib.ListN.{getD}
 use Rattle.text.specs.Fields.{space, newline, labelled, row}
-use Rattle.state.specs.declared.State.{State}
-use Rattle.state.specs.State.{threadAt}
+use Rattle.state.specs.{declared.State.State, State.threadAt}
 use Rattle.passing.specs.Sequence.{Answer}
 use Rattle.trace.specs.Lists.{joined}
 

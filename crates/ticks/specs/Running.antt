@@ -1,20 +1,13 @@
 -- Who runs, the next moment, and what so many ticks change.
 use Prim.Native.Nat.{ℕ, zero, suc, _+_, _-_, _*_, _≤_, _<_, min}
-use mathlib.Core.Bool.{Bool, cond}
-use mathlib.Core.Path.{_≡_}
-use mathlib.Core.List.{List}
-use lib.ListN.{getD, set}
-use lib.Dec.{ltb, eqb}
+use mathlib.Core.{Bool.Bool, Bool.cond, Path._≡_, List.List}
+use lib.{ListN.getD, ListN.set, Dec.ltb, Dec.eqb}
 use Rattle.records.specs.Ranges.{byPolicy, mostThreads}
 use Rattle.account.specs.Account.{entries}
 use Rattle.sporadic.specs.Rules.{charged}
-use Rattle.ready.specs.Lists.{headOf}
-use Rattle.ready.specs.Word.{highestOf}
-use Rattle.thread.specs.declared.Thread.{Thread}
-use Rattle.state.specs.declared.State.{State}
-use Rattle.state.specs.Updates.{withTime, withAllThreads}
-use Rattle.thread.specs.Thread.{withRun}
-use Rattle.state.specs.State.{threadAt}
+use Rattle.ready.specs.{Lists.headOf, Word.highestOf}
+use Rattle.thread.specs.{declared.Thread.Thread, Thread.withRun}
+use Rattle.state.specs.{declared.State.State, Updates.withTime, Updates.withAllThreads, State.threadAt}
 use Rattle.ticks.specs.declared.Due.{Due}
 
 -- 01 State 4: the priority of the highest list that holds a thread, 0 for none
