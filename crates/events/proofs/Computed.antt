@@ -12,7 +12,7 @@ use Rattle.base.specs.Refusals.{firstRefusal}
 use Rattle.passing.specs.Sequence.{status, answer}
 use Rattle.rows.specs.Rows.{withSlots}
 use Rattle.state.specs.Sound.{presentTest, absentTest, soundState}
-use Rattle.ticks.specs.Running.{nextDue}
+use Rattle.due_search.specs.Search.{nextDue}
 use Rattle.moments.specs.Moments.{limits, replenish, replenishBelow, fire}
 use Rattle.events.specs.Events.{changeOf, happened}
 use Rattle.events.specs.Answers.{fieldStatusOf, stateStatusOf}

@@ -9,7 +9,8 @@ use Rattle.state.specs.declared.State.{State}
 use Rattle.state.specs.State.{threadAt}
 use Rattle.state.specs.Sound.{soundState}
 use Rattle.state.proofs.SoundLaws.{state-out}
-use Rattle.ticks.specs.Running.{level, running, earlier, limitOf, nextDue}
+use Rattle.ticks.specs.Running.{level, running, earlier, limitOf}
+use Rattle.due_search.specs.Search.{nextDue}
 use Rattle.moments.proofs.AnswerLaws.{next-is}
 use Rattle.executive.specs.Private.{answered}
 

@@ -25,12 +25,14 @@ use Rattle.rows.specs.Rows.{withSlots}
 use Rattle.state.specs.State.{threadAt, pendingAt, accountAt}
 use Rattle.thread.specs.Thread.{isBlocked, withLeft, withServer}
 use Rattle.rows.proofs.RowLaws.{row-length, row-first}
-use Rattle.ticks.specs.declared.Due.{Due}
+use Rattle.due_search.specs.declared.Due.{Due}
 use Rattle.ticks.proofs.EarlierLaws.{earlier-left}
-use Rattle.ticks.specs.Running.{level, head, ran, charge, limit, nextDue, NextAfter, next}
+use Rattle.ticks.specs.Running.{level, head, ran, charge, limit, next}
+use Rattle.due_search.specs.Search.{nextDue}
+use Rattle.due_search.specs.Kept.{NextAfter}
 use Rattle.moments.specs.Changes.{sentTo, withEffect}
 use Rattle.moments.specs.Moments.{quantumEnded, limits, passed}
-use Rattle.ticks.proofs.DueLaws.{found}
+use Rattle.due_search.proofs.DueLaws.{found}
 use Rattle.moments.proofs.InsertLaws.{came, limit-entries}
 use Rattle.moments.proofs.ChargeLaws.{limit-later}
 use Rattle.moments.proofs.TurnLaws.{firstOf, first-later, Going, weight, turn-rest, turn-limit, due-some, not-past, charged-going, turn-due}

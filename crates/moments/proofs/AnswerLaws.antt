@@ -11,7 +11,8 @@ use Rattle.ready.specs.Rules.{Held}
 use Rattle.state.specs.declared.State.{State}
 use Rattle.state.specs.State.{threadAt}
 use Rattle.state.proofs.SoundLaws.{Sound}
-use Rattle.ticks.specs.Running.{level, running, earlier, limitOf, nextDue, next}
+use Rattle.ticks.specs.Running.{level, running, earlier, limitOf, next}
+use Rattle.due_search.specs.Search.{nextDue}
 use Rattle.moments.proofs.TurnLaws.{firstOf}
 use Rattle.moments.proofs.SeenLaws.{seen-held, top-small, thread-fits, seen-next}
 

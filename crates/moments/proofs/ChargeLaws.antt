@@ -29,13 +29,14 @@ use Rattle.state.specs.State.{threadAt, pendingAt, place}
 use Rattle.thread.specs.Thread.{isBlocked, noThread, assigned, placeOf}
 use Rattle.state.proofs.SoundLaws.{ThreadSound, SoundFrom, Sound}
 use Rattle.state.proofs.SoundLaws.ThreadSound.{absent, fifo, rr, sporadic}
-use Rattle.ticks.specs.declared.Due.{Due}
+use Rattle.due_search.specs.declared.Due.{Due}
 use Rattle.ticks.proofs.EarlierLaws.{earlier-left, earlier-right, earlier-above}
 use Rattle.rows.proofs.RowLaws.{row-first}
-use Rattle.ticks.specs.Running.{level, head, idles, ran, charge, earlier, limit, nextDue, next}
+use Rattle.ticks.specs.Running.{level, head, idles, ran, charge, earlier, limit, next}
+use Rattle.due_search.specs.Search.{nextDue, LeastFirstDue}
 use Rattle.records.proofs.PolicyLaws.{by-zero, by-one, by-two}
 use Rattle.moments.proofs.ChangeLaws.{totals-set}
-use Rattle.ticks.proofs.DueLaws.{Found, found}
+use Rattle.due_search.proofs.DueLaws.{found}
 use Rattle.state.specs.Updates.{stateOf}
 
 -- the running thread
@@ -231,7 +232,7 @@ next-due lo s h i l c = go (ltb i (s .header .n)) refl (h .each i l) (ℕ-discre
     x : Due
     x = nextDue (s .counts) (s .dues) (s .header .n)
 
-    f : Found (s .counts) (s .dues) (s .header .n) x
+    f : LeastFirstDue (s .counts) (s .dues) (s .header .n) x
     f = found (s .counts) (s .dues) (s .header .n) (omega (tests, h .sizes))
 
     go : (b : Bool) → ltb i (s .header .n) ≡ b → ThreadSound (s .header .start) (s .now) (lo i) (ltb i (s .header .n)) (threadAt s i) (pendingAt s i) → Dec (x .thread ≡ 32)
@@ -264,7 +265,7 @@ later s h q = earlier-above (s .now) (limit s) (x .due) (limit-later (λ i. s .n
     due : 0 < nextDue (s .counts) (s .dues) (s .header .n) .due → s .now < nextDue (s .counts) (s .dues) (s .header .n) .due
     due p = go (ℕ-discrete (x .thread) 32)
       where
-        f : Found (s .counts) (s .dues) (s .header .n) x
+        f : LeastFirstDue (s .counts) (s .dues) (s .header .n) x
         f = found (s .counts) (s .dues) (s .header .n) (omega (tests, h .sizes))
 
         go : Dec (x .thread ≡ 32) → s .now < x .due

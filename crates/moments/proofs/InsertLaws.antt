@@ -12,8 +12,9 @@ use Rattle.account.specs.Rules.{pendingAfter}
 use Rattle.account.proofs.EntryLaws.{added-elim}
 use Rattle.rows.specs.Rows.{withSlots}
 use Rattle.rows.proofs.RowLaws.{row-first}
-use Rattle.ticks.specs.declared.Due.{Due}
-use Rattle.ticks.specs.Running.{nextDue, EntryCame}
+use Rattle.due_search.specs.declared.Due.{Due}
+use Rattle.due_search.specs.Search.{nextDue}
+use Rattle.due_search.specs.Kept.{EntryCame}
 use Rattle.moments.proofs.ChangeLaws.{row-at, row-other}
 
 -- thread k has the entries q, the first due no later than before: the next due is found without a search

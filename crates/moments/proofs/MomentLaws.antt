@@ -19,7 +19,8 @@ use Rattle.state.specs.Sound.{soundState}
 use Rattle.state.proofs.SoundLaws.{ThreadSound, SoundFrom, Sound, state-in, state-out}
 use Rattle.state.proofs.SoundLaws.ThreadSound.{absent, fifo, rr, sporadic}
 use Rattle.ticks.proofs.EarlierLaws.{earlier-left}
-use Rattle.ticks.specs.Running.{level, head, idles, charge, limitOf, limit, nextDue, next}
+use Rattle.ticks.specs.Running.{level, head, idles, charge, limitOf, limit, next}
+use Rattle.due_search.specs.Search.{nextDue}
 use Rattle.moments.specs.Moments.{limits, replenishBelow, fire, clock}
 use Rattle.moments.proofs.ChangeLaws.{withBound}
 use Rattle.moments.proofs.ChargeLaws.{runs, Within, runner-lasts, charge-add, next-charge, later, dues-after, charged-sound}

@@ -22,7 +22,7 @@ use Rattle.thread.specs.Thread.{noThread}
 use Rattle.state.specs.Sound.{totals}
 use Rattle.state.proofs.SoundLaws.{ThreadSound, SoundFrom}
 use Rattle.state.proofs.SoundLaws.ThreadSound.{absent, fifo, rr, sporadic}
-use Rattle.ticks.specs.declared.Due.{Due}
+use Rattle.due_search.specs.declared.Due.{Due}
 use Rattle.ticks.specs.Running.{level, head, idles, ran, charge, earlier, limitOf, limit, next}
 use Rattle.ticks.proofs.RunLaws.{limit-rr, limit-upper}
 use Rattle.records.proofs.PolicyLaws.{by-one, by-more}

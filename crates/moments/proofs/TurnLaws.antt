@@ -32,13 +32,14 @@ use Rattle.state.specs.State.{threadAt, pendingAt, accountAt}
 use Rattle.thread.specs.Thread.{isBlocked, noThread}
 use Rattle.rows.proofs.RowLaws.{row-length, row-first}
 use Rattle.state.proofs.SoundLaws.{SoundFrom, Sound, state-in}
-use Rattle.ticks.specs.declared.Due.{Due}
-use Rattle.ticks.specs.Running.{level, head, idles, ran, charge, limit, nextDue, next}
+use Rattle.due_search.specs.declared.Due.{Due}
+use Rattle.ticks.specs.Running.{level, head, idles, ran, charge, limit, next}
+use Rattle.due_search.specs.Search.{nextDue, LeastFirstDue}
 use Rattle.ticks.proofs.EarlierLaws.{earlier-other, earlier-right}
 use Rattle.ticks.proofs.RunLaws.{charged-none}
 use Rattle.moments.specs.Moments.{quantumEnded, limitsOf, limits, firstReturned, replenish, replenishBelow, fire, clock, passed}
 use Rattle.moments.proofs.ChangeLaws.{pending-other}
-use Rattle.ticks.proofs.DueLaws.{Found, found}
+use Rattle.due_search.proofs.DueLaws.{found}
 use Rattle.moments.proofs.ChargeLaws.{due-after, wait-thread, next-due, dues-after, limit-later, charged-sound}
 use Rattle.moments.proofs.LimitLaws.{limits-none}
 use Rattle.moments.proofs.FireLaws.{bounds-same, first-counted-at, first-returned-sound, keeps-limits}
@@ -134,7 +135,7 @@ limits-counted s =
     (λ d. omega arith)))
 
 module _ (s : State) (h : Mid s) (d : firstOf s .thread ≡ 32 → ⊥) (e : firstOf s .due ≤ s .now) where
-  f : Found (s .counts) (s .dues) (s .header .n) (firstOf s)
+  f : LeastFirstDue (s .counts) (s .dues) (s .header .n) (firstOf s)
   f = found (s .counts) (s .dues) (s .header .n) (omega (tests, h .sizes))
 
   pub first-below : firstOf s .thread < s .header .n

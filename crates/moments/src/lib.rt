@@ -139,7 +139,7 @@ pub fn advance(mut s: Core, dues: &mut Slots, amounts: &mut Slots, t: u64) -> Co
     ensures { λ r. ⌜ whole r (now (dues .exit)) (now (amounts .exit)) ≡ passed (whole s (now (dues .entry)) (now (amounts .entry))) t ⌝ }
 {
     let n = s.header.n as usize;
-    let mut x = ticks::next_due(&s.counts, dues, n);
+    let mut x = due_search::next_due(&s.counts, dues, n);
     loop {
         let p = ready::highest(s.word);
         let h = ticks::head_at(&s.lists, p);
@@ -192,9 +192,9 @@ pub fn advance(mut s: Core, dues: &mut Slots, amounts: &mut Slots, t: u64) -> Co
         change_row(amounts, j, first, amount, count, amount);
         if limited {
             let d = dues[at];
-            x = ticks::after_limit(x, j, pending, d);
+            x = due_search::after_limit(x, j, pending, d);
             continue;
         }
-        x = ticks::next_due_from(&s.counts, dues, n, m);
+        x = due_search::next_due_from(&s.counts, dues, n, m);
     }
 }

@@ -8,90 +8,12 @@ ghost use Rattle.ready.specs.Lists.{headOf};
 ghost use Rattle.ready.specs.Word.{highestOf};
 ghost use Rattle.ready.specs.Rules.{Held};
 ghost use Rattle.passing.specs.Time.{dueBy};
-ghost use Rattle.ticks.specs.Running.{ran, earlier, limitOf, sooner, nextDue, NextAfter, NoneBefore};
-use account::ENTRIES;
+ghost use Rattle.due_search.specs.Search.{nextDue};
+ghost use Rattle.ticks.specs.Running.{ran, earlier, limitOf};
 use ready::LIST_BYTES;
 use records::THREADS;
 use rows::SLOTS;
 use thread::Thread;
-
-// The first of the dues, and the lowest thread that has it; thread THREADS for none.
-pub struct Due {
-    pub due: u64,
-    pub thread: usize,
-}
-
-// Of the first n threads that have a replenishment pending: the least first due and the lowest thread that has it.
-pub fn next_due<'a>(counts: &'a [u8; THREADS], dues: &'a [u64; SLOTS], n: usize) -> Due
-    requires { ⌜ n ≤ mostThreads ⌝ }
-    ensures { λ r. ⌜ r ≡ nextDue (now (counts .entry)) (now (dues .entry)) n ⌝ }
-{
-    next_due_from(counts, dues, n, 0)
-}
-
-// The same, where no first due is before `earliest`: the search ends at the first that is not after it, since none is sooner.
-pub fn next_due_from<'a>(
-    counts: &'a [u8; THREADS],
-    dues: &'a [u64; SLOTS],
-    n: usize,
-    earliest: u64,
-) -> Due
-    requires { ⌜ (n ≤ mostThreads) × NoneBefore (now counts) (now dues) n earliest ⌝ }
-    ensures { λ r. ⌜ r ≡ nextDue (now (counts .entry)) (now (dues .entry)) n ⌝ }
-{
-    let mut best = Due {
-        due: 0,
-        thread: THREADS,
-    };
-    let mut i: usize = 0;
-    while i < n {
-        let k = i;
-        i = i + 1;
-        let count = counts[k];
-        if count == 0 {
-            continue;
-        }
-        best = sooner_of(best, k, count, dues[k * ENTRIES]);
-        if best.due <= earliest {
-            return best;
-        }
-    }
-    best
-}
-
-// The sooner of the best so far and thread k, whose first due is d and which has `count` pending.
-fn sooner_of(best: Due, k: usize, count: u8, d: u64) -> Due
-    ensures { λ r. ⌜ r ≡ cond (eqb count 0) best (sooner k d best) ⌝ }
-{
-    if count == 0 {
-        return best;
-    }
-    if best.thread == THREADS {
-        return Due { due: d, thread: k };
-    }
-    if d < best.due {
-        return Due { due: d, thread: k };
-    }
-    best
-}
-
-// The next due after a limit of thread k, which has `count` entries then, the first due at d: that of the counts and dues
-// as they are, without a search.
-pub fn after_limit(x: Due, k: usize, count: u8, d: u64) -> Due
-    ensures { λ r. ⌜ NextAfter x k count d r ⌝ }
-{
-    if count == 0 {
-        return x;
-    }
-    if d != x.due {
-        return sooner_of(x, k, count, d);
-    }
-    // at equal dues the lower thread comes first
-    if k < x.thread {
-        return Due { due: d, thread: k };
-    }
-    x
-}
 
 // The earlier of two moments, 0 for none.
 pub fn earlier_of(a: u64, b: u64) -> u64
@@ -237,6 +159,6 @@ pub fn next_moment<'a>(
     requires { ⌜ (n ≤ mostThreads) × (time + t .left < 2 ^ 64) × (time + t .server .capacity < 2 ^ 64) ⌝ }
     ensures { λ r. ⌜ r ≡ earlier (cond (eqb p 0) 0 (limitOf time p t)) (nextDue (now (counts .entry)) (now (dues .entry)) n .due) ⌝ }
 {
-    let x = next_due(counts, dues, n);
+    let x = due_search::next_due(counts, dues, n);
     earlier_of(limit_at(time, p, t), x.due)
 }

@@ -13,7 +13,7 @@ use Rattle.state.specs.declared.State.{State}
 use Rattle.state.specs.State.{threadAt}
 use Rattle.state.specs.Updates.{whole}
 use Rattle.state.proofs.SoundLaws.{Sound, state-out}
-use Rattle.ticks.specs.Running.{nextDue}
+use Rattle.due_search.specs.Search.{nextDue}
 use Rattle.moments.proofs.TurnLaws.{weight, start}
 use Rattle.moments.proofs.SeenLaws.{seen-held, top-small, thread-fits}
 use Rattle.moments.proofs.StepLaws.{Sendable}

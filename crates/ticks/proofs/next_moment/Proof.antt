@@ -4,8 +4,9 @@ use mathlib.Core.Bool.{cond}
 use mathlib.Core.Path.{_≡_, ap, _∙_}
 use lib.Dec.{eqb}
 use borrow.Author.Needs.{needs}
-use Rattle.ticks.specs.declared.Due.{Due}
-use Rattle.ticks.specs.Running.{earlier, limitOf, nextDue}
+use Rattle.due_search.specs.declared.Due.{Due}
+use Rattle.ticks.specs.Running.{earlier, limitOf}
+use Rattle.due_search.specs.Search.{nextDue}
 use Rattle.ticks.proofs.next_moment.Statement.{statement}
 use Rattle.ticks.proofs.next_moment.Tie as tie
 

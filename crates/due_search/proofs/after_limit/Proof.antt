@@ -1,13 +1,13 @@
--- `ticks::after_limit` meets its contract.
+-- `due_search::after_limit` meets its contract.
 use native.Mathlib.Omega.{arith}
 use Prim.Native.Nat.{_<_}
 use mathlib.Core.Path.{_≡_, _∙_}
 use borrow.Author.Tests.{lt-ltb, le-ltb, eq-eqb, ne-eqb}
 use Rattle.base.proofs.TestLaws.{cond-false}
-use Rattle.ticks.specs.declared.Due.{Due}
-use Rattle.ticks.proofs.DueLaws.{afterEntry, entry-came}
-use Rattle.ticks.proofs.after_limit.Statement.{statement}
-use Rattle.ticks.proofs.after_limit.Tie as tie
+use Rattle.due_search.specs.declared.Due.{Due}
+use Rattle.due_search.proofs.DueLaws.{afterEntry, entry-came}
+use Rattle.due_search.proofs.after_limit.Statement.{statement}
+use Rattle.due_search.proofs.after_limit.Tie as tie
 
 returns : tie.Need-returns
 returns c counts dues n h =

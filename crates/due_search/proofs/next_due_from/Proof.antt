@@ -1,13 +1,13 @@
--- `ticks::next_due_from` meets its contract: after i threads `best` is what the definition gives for i, and where the search
+-- `due_search::next_due_from` meets its contract: after i threads `best` is what the definition gives for i, and where the search
 -- ends early none of the others is sooner.
 use Prim.Native.Nat.{_-_, _≤_}
 use mathlib.Core.Path.{_≡_, refl}
 use native.Mathlib.Omega.{arith}
 use borrow.Author.Tests.{eq-eqb}
-use Rattle.ticks.specs.Running.{nextDue}
-use Rattle.ticks.proofs.SearchLaws.{next-due-step, search-ends}
-use Rattle.ticks.proofs.next_due_from.Statement.{statement}
-use Rattle.ticks.proofs.next_due_from.Tie as tie
+use Rattle.due_search.specs.Search.{nextDue}
+use Rattle.due_search.proofs.SearchLaws.{next-due-step, search-ends}
+use Rattle.due_search.proofs.next_due_from.Statement.{statement}
+use Rattle.due_search.proofs.next_due_from.Tie as tie
 
 abbrev Inv-loop : tie.InvT-loop
 Inv-loop counts dues n earliest best₀ i₀ best i = (i ≤ n) × (best ≡ nextDue counts dues i)

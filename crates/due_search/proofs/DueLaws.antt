@@ -8,20 +8,11 @@ use lib.Dec.{ltb, eqb}
 use native.Mathlib.Omega.{arith}
 use native.Mathlib.Decide.{ℕ-discrete}
 use borrow.Author.Tests.{eq-eqb, ne-eqb, eqb-true, eqb-false, ltb-true, ltb-false}
-use Rattle.ticks.specs.declared.Due.{Due}
-use Rattle.ticks.specs.Running.{sooner, nextDue, EntryCame}
+use Rattle.due_search.specs.declared.Due.{Due}
+use Rattle.due_search.specs.Search.{sooner, nextDue, LeastFirstDue, SearchFindsLeast, SameFirst, OthersDontMatter}
+use Rattle.due_search.specs.Kept.{EntryCame}
 
--- what was found among the threads below n
-pub record Found (counts dues : List ℕ) (n : ℕ) (x : Due) : Type 0 where
-  -- none: no thread has an entry
-  pub none : x .thread ≡ 32 → (x .due ≡ 0) × ((i : ℕ) → i < n → getD counts i 0 ≡ 0)
-  -- else a thread that has one, with its due
-  pub some : (x .thread ≡ 32 → ⊥) → (x .thread < n) × (0 < getD counts (x .thread) 0) × (x .due ≡ getD dues (x .thread * 8) 0)
-  -- none is earlier, and none of a lower number is as early
-  pub least : (x .thread ≡ 32 → ⊥) → (i : ℕ) → i < n → 0 < getD counts i 0 → x .due ≤ getD dues (i * 8) 0
-  pub lowest : (x .thread ≡ 32 → ⊥) → (i : ℕ) → i < x .thread → 0 < getD counts i 0 → x .due < getD dues (i * 8) 0
-
-pub found : (counts dues : List ℕ) (n : ℕ) → n ≤ 32 → Found counts dues n (nextDue counts dues n)
+pub found : (counts dues : List ℕ) (n : ℕ) → n ≤ 32 → LeastFirstDue counts dues n (nextDue counts dues n)
 unfolding nextDue
 found counts dues zero l =
     record {
@@ -32,7 +23,7 @@ found counts dues zero l =
     }
 found counts dues (suc n) l = go (ℕ-discrete (getD counts n 0) 0) (found counts dues n (omega arith))
   where
-    go : Dec (getD counts n 0 ≡ 0) → Found counts dues n (nextDue counts dues n) → Found counts dues (suc n) (nextDue counts dues (suc n))
+    go : Dec (getD counts n 0 ≡ 0) → LeastFirstDue counts dues n (nextDue counts dues n) → LeastFirstDue counts dues (suc n) (nextDue counts dues (suc n))
     go (yes z) f =
         rw (eq-eqb (getD counts n 0) 0 z)
         (record {
@@ -53,7 +44,7 @@ found counts dues (suc n) l = go (ℕ-discrete (getD counts n 0) 0) (found count
       where
         -- thread n is the one, where every thread below it that has an entry is due later
         mine : ((i : ℕ) → i < n → 0 < getD counts i 0 → getD dues (n * 8) 0 < getD dues (i * 8) 0)
-            → Found counts dues (suc n) (record { due = getD dues (n * 8) 0; thread = n })
+            → LeastFirstDue counts dues (suc n) (record { due = getD dues (n * 8) 0; thread = n })
         mine g =
             record {
               none = λ e. absurd (omega arith);
@@ -66,13 +57,13 @@ found counts dues (suc n) l = go (ℕ-discrete (getD counts n 0) 0) (found count
             last i h c (yes e) = omega (arith, ap (λ (k : ℕ). getD dues (k * 8) 0) e)
             last i h c (no e) = omega (arith, g i (omega (arith, e)) c)
 
-        by : Dec (nextDue counts dues n .thread ≡ 32) → Found counts dues (suc n) (sooner n (getD dues (n * 8) 0) (nextDue counts dues n))
+        by : Dec (nextDue counts dues n .thread ≡ 32) → LeastFirstDue counts dues (suc n) (sooner n (getD dues (n * 8) 0) (nextDue counts dues n))
         by (yes e) =
             rw (eq-eqb (nextDue counts dues n .thread) 32 e) (mine (λ i h c. absurd (omega (arith, f .none e .1 i h))))
         by (no e) = rw (ne-eqb (nextDue counts dues n .thread) 32 e) (than (ltb (getD dues (n * 8) 0) (nextDue counts dues n .due)) refl)
           where
             than : (b : Bool) → ltb (getD dues (n * 8) 0) (nextDue counts dues n .due) ≡ b
-                → Found counts dues (suc n) (cond (ltb (getD dues (n * 8) 0) (nextDue counts dues n .due)) (record { due = getD dues (n * 8) 0; thread = n }) (nextDue counts dues n))
+                → LeastFirstDue counts dues (suc n) (cond (ltb (getD dues (n * 8) 0) (nextDue counts dues n .due)) (record { due = getD dues (n * 8) 0; thread = n }) (nextDue counts dues n))
             than true q = rw q (mine (λ i h c. omega (arith, ltb-true (getD dues (n * 8) 0) (nextDue counts dues n .due) q, f .least e i h c)))
             than false q =
                 rw q
@@ -88,14 +79,14 @@ found counts dues (suc n) l = go (ℕ-discrete (getD counts n 0) 0) (found count
                 last i h c (no k) = f .least e i (omega (arith, k)) c
 
 -- only one due and thread is found
-found-once : (counts dues : List ℕ) (n : ℕ) (x y : Due) → Found counts dues n x → Found counts dues n y → x ≡ y
+found-once : (counts dues : List ℕ) (n : ℕ) (x y : Due) → LeastFirstDue counts dues n x → LeastFirstDue counts dues n y → x ≡ y
 found-once counts dues n x y f g = go (ℕ-discrete (x .thread) 32) (ℕ-discrete (y .thread) 32)
   where
     same : x .due ≡ y .due → x .thread ≡ y .thread → x ≡ y
     same p q = λ k. record { due = p k; thread = q k }
 
     -- of two threads with that due, neither is lower
-    not-lower : (x y : Due) → Found counts dues n x → Found counts dues n y → (x .thread ≡ 32 → ⊥) → (y .thread ≡ 32 → ⊥) → x .due ≡ y .due → y .thread ≤ x .thread
+    not-lower : (x y : Due) → LeastFirstDue counts dues n x → LeastFirstDue counts dues n y → (x .thread ≡ 32 → ⊥) → (y .thread ≡ 32 → ⊥) → x .due ≡ y .due → y .thread ≤ x .thread
     not-lower x y f g a b e = go (ltb (x .thread) (y .thread)) refl
       where
         go : (b : Bool) → ltb (x .thread) (y .thread) ≡ b → y .thread ≤ x .thread
@@ -112,12 +103,34 @@ found-once counts dues n x y f g = go (ℕ-discrete (x .thread) 32) (ℕ-discret
         let e : x .due ≡ y .due = omega (arith, r .2, u .2, f .least a (y .thread) (u .0) (u .1), g .least b (x .thread) (r .0) (r .1)) in
         same e (omega (arith, not-lower x y f g a b e, not-lower y x g f b a (sym e)))
 
+pub finds-least : SearchFindsLeast
+finds-least counts dues n l = (found counts dues n l, λ x f. found-once counts dues n x (nextDue counts dues n) f (found counts dues n l))
+
+-- the thread that is named, or the number after the last thread's
+pub named-small : (counts dues : List ℕ) (n : ℕ) → n ≤ 32 → nextDue counts dues n .thread ≤ 32
+named-small counts dues n l = go (ℕ-discrete (nextDue counts dues n .thread) 32)
+  where
+    go : Dec (nextDue counts dues n .thread ≡ 32) → nextDue counts dues n .thread ≤ 32
+    go (yes e) = omega arith
+    go (no e) = omega (arith, found counts dues n l .some e .0)
+
 -- ---- other counts and dues
 
-module _ (counts counts′ dues dues′ : List ℕ) (n : ℕ) (x : Due) (f : Found counts dues n x) where
+pub others-dont-matter : OthersDontMatter
+unfolding nextDue
+others-dont-matter counts dues counts′ dues′ zero h = refl
+others-dont-matter counts dues counts′ dues′ (suc n) h =
+    go (ℕ-discrete (getD counts n 0) 0) (h n (omega arith)) (others-dont-matter counts dues counts′ dues′ n (λ i l. h i (omega arith)))
+  where
+    go : Dec (getD counts n 0 ≡ 0) → SameFirst counts dues counts′ dues′ n → nextDue counts dues n ≡ nextDue counts′ dues′ n
+        → nextDue counts dues (suc n) ≡ nextDue counts′ dues′ (suc n)
+    go (yes z) s r = rw (← s .pending, eq-eqb (getD counts n 0) 0 z) r
+    go (no z) s r = rw (← s .pending, ne-eqb (getD counts n 0) 0 z, ← s .first (omega (arith, z)), r)
+
+module _ (counts counts′ dues dues′ : List ℕ) (n : ℕ) (x : Due) (f : LeastFirstDue counts dues n x) where
   -- the same threads have entries, and their first dues are the same
   kept : ((i : ℕ) → getD counts i 0 ≡ 0 → getD counts′ i 0 ≡ 0)
-      → ((i : ℕ) → 0 < getD counts i 0 → (0 < getD counts′ i 0) × (getD dues′ (i * 8) 0 ≡ getD dues (i * 8) 0)) → Found counts′ dues′ n x
+      → ((i : ℕ) → 0 < getD counts i 0 → (0 < getD counts′ i 0) × (getD dues′ (i * 8) 0 ≡ getD dues (i * 8) 0)) → LeastFirstDue counts′ dues′ n x
   kept z p =
       record {
         none = λ d. (f .none d .0, λ i h. z i (f .none d .1 i h));
@@ -135,7 +148,7 @@ module _ (counts counts′ dues dues′ : List ℕ) (n : ℕ) (x : Due) (f : Fou
       (others : (i : ℕ) → (i ≡ k → ⊥) → (getD counts′ i 0 ≡ getD counts i 0) × (getD dues′ (i * 8) 0 ≡ getD dues (i * 8) 0)) where
     -- it is the one
     mine : ((i : ℕ) → i < n → 0 < getD counts i 0 → d ≤ getD dues (i * 8) 0) → ((i : ℕ) → i < k → 0 < getD counts i 0 → d < getD dues (i * 8) 0)
-        → Found counts′ dues′ n (record { due = d; thread = k })
+        → LeastFirstDue counts′ dues′ n (record { due = d; thread = k })
     mine g h =
         record {
           none = λ q. absurd (omega arith);
@@ -149,7 +162,7 @@ module _ (counts counts′ dues dues′ : List ℕ) (n : ℕ) (x : Due) (f : Fou
         least i j p (no q) = let o = others i q in omega (arith, o .1, g i j (omega (arith, o .0)))
 
     -- another is
-    theirs : (x .thread ≡ 32 → ⊥) → x .due ≤ d → (k < x .thread → x .due < d) → Found counts′ dues′ n x
+    theirs : (x .thread ≡ 32 → ⊥) → x .due ≤ d → (k < x .thread → x .due < d) → LeastFirstDue counts′ dues′ n x
     theirs a u w =
         record {
           none = λ q. absurd (a q);
@@ -177,13 +190,13 @@ module _ (counts counts′ dues dues′ : List ℕ) (n : ℕ) (x : Due) (f : Fou
         lowest i j p (no q) = let o = others i q in omega (arith, o .1, f .lowest a i j (omega (arith, o .0)))
 
     -- so the sooner of the two, and at equal dues the lower
-    inserted : Found counts′ dues′ n (cond (eqb d (x .due)) (cond (ltb k (x .thread)) (record { due = d; thread = k }) x) (sooner k d x))
+    inserted : LeastFirstDue counts′ dues′ n (cond (eqb d (x .due)) (cond (ltb k (x .thread)) (record { due = d; thread = k }) x) (sooner k d x))
     inserted = go (ℕ-discrete (x .thread) 32) (eqb d (x .due)) refl (ltb k (x .thread)) refl (ltb d (x .due)) refl
       where
-        alone : x .thread ≡ 32 → Found counts′ dues′ n (record { due = d; thread = k })
+        alone : x .thread ≡ 32 → LeastFirstDue counts′ dues′ n (record { due = d; thread = k })
         alone a = mine (λ i j p. absurd (omega (arith, f .none a .1 i j))) (λ i j p. absurd (omega (arith, f .none a .1 i (omega arith))))
 
-        first : (x .thread ≡ 32 → ⊥) → d ≤ x .due → (x .thread ≤ k → d < x .due) → Found counts′ dues′ n (record { due = d; thread = k })
+        first : (x .thread ≡ 32 → ⊥) → d ≤ x .due → (x .thread ≤ k → d < x .due) → LeastFirstDue counts′ dues′ n (record { due = d; thread = k })
         first a u w = mine (λ i j p. omega (arith, f .least a i j p)) (λ i j p. lower i j p (ltb i (x .thread)) refl)
           where
             lower : (i : ℕ) → i < k → 0 < getD counts i 0 → (b : Bool) → ltb i (x .thread) ≡ b → d < getD dues (i * 8) 0
@@ -191,7 +204,7 @@ module _ (counts counts′ dues dues′ : List ℕ) (n : ℕ) (x : Due) (f : Fou
             lower i j p false q = omega (arith, w (omega (arith, ltb-false i (x .thread) q)), f .least a i (omega arith) p)
 
         go : Dec (x .thread ≡ 32) → (a : Bool) → eqb d (x .due) ≡ a → (b : Bool) → ltb k (x .thread) ≡ b → (o : Bool) → ltb d (x .due) ≡ o
-            → Found counts′ dues′ n (cond a (cond b (record { due = d; thread = k }) x) (cond (eqb (x .thread) 32) (record { due = d; thread = k }) (cond o (record { due = d; thread = k }) x)))
+            → LeastFirstDue counts′ dues′ n (cond a (cond b (record { due = d; thread = k }) x) (cond (eqb (x .thread) 32) (record { due = d; thread = k }) (cond o (record { due = d; thread = k }) x)))
         go (yes q) true qa true qb o qo = alone q
         go (yes q) true qa false qb o qo = absurd (omega (arith, ltb-false k (x .thread) qb))
         go (yes q) false qa b qb o qo = rw (eq-eqb (x .thread) 32 q) (alone q)
@@ -220,11 +233,11 @@ pub entry-came : (x : Due) (k count d : ℕ) (counts dues : List ℕ) (n : ℕ) 
 entry-came x k count d counts dues n h =
     found-once counts dues n (afterEntry x k count d) (nextDue counts dues n) (go (ℕ-discrete count 0)) (found counts dues n (h .small))
   where
-    f : Found (h .countsBefore) (h .duesBefore) n x
-    f = subst⁻¹ (Found (h .countsBefore) (h .duesBefore) n) (h .first) (found (h .countsBefore) (h .duesBefore) n (h .small))
+    f : LeastFirstDue (h .countsBefore) (h .duesBefore) n x
+    f = subst⁻¹ (LeastFirstDue (h .countsBefore) (h .duesBefore) n) (h .first) (found (h .countsBefore) (h .duesBefore) n (h .small))
 
     -- none was there and none is
-    same : count ≡ 0 → Found counts dues n x
+    same : count ≡ 0 → LeastFirstDue counts dues n x
     same z = kept (h .countsBefore) counts (h .duesBefore) dues n x f (λ i c. zero i c (ℕ-discrete i k)) (λ i c. some i c (ℕ-discrete i k))
       where
         zero : (i : ℕ) → getD (h .countsBefore) i 0 ≡ 0 → Dec (i ≡ k) → getD counts i 0 ≡ 0
@@ -235,7 +248,7 @@ entry-came x k count d counts dues n h =
         some i c (yes p) = let y = h .kept (omega (arith, ap (λ (a : ℕ). getD (h .countsBefore) a 0) p)) in absurd (omega (arith, y .0))
         some i c (no p) = let o = h .others i p in (omega (arith, o .0), o .1)
 
-    go : Dec (count ≡ 0) → Found counts dues n (afterEntry x k count d)
+    go : Dec (count ≡ 0) → LeastFirstDue counts dues n (afterEntry x k count d)
     go (yes a) = rw (eq-eqb count 0 a) (same a)
     go (no a) =
         rw (ne-eqb count 0 a)

@@ -1,9 +1,9 @@
--- `ticks::next_due` meets its contract: no due is before 0.
+-- `due_search::next_due` meets its contract: no due is before 0.
 use native.Mathlib.Omega.{arith}
 use mathlib.Core.Path.{_≡_}
-use Rattle.ticks.specs.Running.{nextDue}
-use Rattle.ticks.proofs.next_due.Statement.{statement}
-use Rattle.ticks.proofs.next_due.Tie as tie
+use Rattle.due_search.specs.Search.{nextDue}
+use Rattle.due_search.proofs.next_due.Statement.{statement}
+use Rattle.due_search.proofs.next_due.Tie as tie
 
 next-due-from-requires : tie.Need-next-due-from-requires
 next-due-from-requires c κs = (omega (arith, c .pre), λ i h k. omega arith)

@@ -1,9 +1,9 @@
--- `ticks::sooner_of` meets its contract.
+-- `due_search::sooner_of` meets its contract.
 use native.Mathlib.Omega.{arith}
 use Prim.Native.Nat.{_<_}
 use borrow.Author.Tests.{lt-ltb, le-ltb, eq-eqb, ne-eqb}
-use Rattle.ticks.proofs.sooner_of.Statement.{statement}
-use Rattle.ticks.proofs.sooner_of.Tie as tie
+use Rattle.due_search.proofs.sooner_of.Statement.{statement}
+use Rattle.due_search.proofs.sooner_of.Tie as tie
 
 returns : tie.Need-returns
 returns c = simp (eq-eqb _ _ (c .if1 .taken))

@@ -10,8 +10,9 @@ use native.Mathlib.Numerals.{add-one}
 use native.Mathlib.Decide.{ℕ-discrete}
 use borrow.Author.Tests.{eq-eqb, ne-eqb, le-ltb}
 use Rattle.base.proofs.TestLaws.{cond-false}
-use Rattle.ticks.specs.declared.Due.{Due}
-use Rattle.ticks.specs.Running.{sooner, nextDue, NoneBefore}
+use Rattle.due_search.specs.declared.Due.{Due}
+use Rattle.due_search.specs.Search.{sooner, nextDue}
+use Rattle.due_search.specs.Kept.{NoneBefore}
 
 -- after a thread that has one pending, some thread is the best
 sooner-found : (k d : ℕ) (x : Due) → k < 32 → sooner k d x .thread ≡ 32 → ⊥

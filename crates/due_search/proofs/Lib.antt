@@ -1,0 +1,3 @@
+-- Laws of the search for the next due.
+pub mod DueLaws
+pub mod SearchLaws

@@ -1,0 +1,3 @@
+-- What a reader of `due_search` must believe.
+pub mod Search
+pub mod Kept
