@@ -1,5 +1,5 @@
-/* What the static libraries export, for C: the functions of crates/board, board_trace, board_replay, board_text and board_check, and the structs that
-   they name. A slice is a pointer and then a length. */
+/* What the static libraries export, for C: the functions of crates/board, board_search, board_trace, board_replay, board_text and
+   board_check, and the structs that they name. A slice is a pointer and then a length. */
 #ifndef THAWONLAI_H
 #define THAWONLAI_H
 #include <stddef.h>
@@ -22,6 +22,8 @@ struct core {
     uint8_t lists[THREADS * ROW];
 };
 struct reply { uint8_t status, running; uint64_t next; };
+/* status 0, or 5 where n is out of range; thread THREADS where no thread has anything pending, then due 0 */
+struct next_due { uint8_t status, thread; uint64_t due; };
 struct answer { uint8_t status, running; uint64_t next; struct core core; };
 struct table { struct parameters threads[THREADS]; };
 struct events { struct event events[EVENTS]; };
@@ -34,6 +36,7 @@ struct checked { uint8_t verdict, status; size_t line; };
 struct reply thawonlai_event(struct core *core, uint64_t *dues, uint64_t *amounts, struct event e);
 struct answer thawonlai_open(struct header header, struct table table, uint64_t *dues, uint64_t *amounts);
 uint8_t thawonlai_sound(struct core core, const uint64_t *dues, const uint64_t *amounts);
+struct next_due thawonlai_next_due(const uint8_t counts[THREADS], const uint64_t dues[SLOTS], uint32_t n);
 struct found thawonlai_read(const uint8_t *file, size_t length);
 struct written thawonlai_write(struct header header, struct table table, struct events events, size_t count, uint8_t *out, size_t room);
 struct written thawonlai_copy(const uint8_t *file, size_t length, uint8_t *out, size_t room);

@@ -1,0 +1,2 @@
+-- What a reader of `board_search` must believe.
+pub mod Answer
