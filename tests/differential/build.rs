@@ -5,7 +5,14 @@ fn main() {
     let here = std::env::var("CARGO_MANIFEST_DIR").expect("cargo names the package's folder");
     let folder = Path::new(&here).join("../../target/staticlib");
     println!("cargo:rustc-link-search=native={}", folder.display());
-    for name in ["board", "board_trace", "board_replay", "board_text", "board_check"] {
+    for name in [
+        "board",
+        "board_search",
+        "board_trace",
+        "board_replay",
+        "board_text",
+        "board_check",
+    ] {
         let archive = folder.join(format!("lib{name}.a"));
         if !archive.exists() {
             panic!(

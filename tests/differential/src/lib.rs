@@ -84,6 +84,15 @@ pub struct Reply {
     pub next: u64,
 }
 
+/// What a search found: thread 32 for none.
+#[repr(C)]
+#[derive(Clone, Copy, Debug, PartialEq, Eq)]
+pub struct NextDue {
+    pub status: u8,
+    pub thread: u8,
+    pub due: u64,
+}
+
 /// An answer without the slots of its state, which are lent.
 #[repr(C)]
 #[derive(Clone, Copy)]
@@ -203,6 +212,7 @@ mod exported {
             amounts: *mut u64,
         ) -> Answered;
         pub fn thawonlai_sound(core: Core, dues: *const u64, amounts: *const u64) -> u8;
+        pub fn thawonlai_next_due(counts: *const u8, dues: *const u64, n: u32) -> NextDue;
         pub fn thawonlai_read(file: *const u8, length: usize) -> Found;
         pub fn thawonlai_copy(file: *const u8, length: usize, out: *mut u8, room: usize)
             -> Written;
@@ -264,6 +274,12 @@ pub fn open(start: u64, n: u32, table: Table) -> Answer {
 
 pub fn sound(s: &State) -> u8 {
     unsafe { exported::thawonlai_sound(s.core, s.dues.as_ptr(), s.amounts.as_ptr()) }
+}
+
+/// A row of `PENDING` dues for each thread.
+pub fn next_due(counts: &[u8; THREADS], dues: &[u64], n: u32) -> NextDue {
+    assert_eq!(dues.len(), THREADS * PENDING);
+    unsafe { exported::thawonlai_next_due(counts.as_ptr(), dues.as_ptr(), n) }
 }
 
 pub fn read(file: &[u8]) -> Found {
@@ -344,6 +360,17 @@ impl From<model::Made> for Made {
             status: a.status,
             line: a.line,
             total: a.total,
+        }
+    }
+}
+
+impl From<Result<Option<(usize, u64)>, u8>> for NextDue {
+    fn from(a: Result<Option<(usize, u64)>, u8>) -> NextDue {
+        let (thread, due) = a.ok().flatten().unwrap_or((THREADS, 0));
+        NextDue {
+            status: a.err().unwrap_or(0),
+            thread: thread as u8,
+            due,
         }
     }
 }

@@ -9,6 +9,7 @@ mod coverage;
 mod events;
 mod files;
 mod replays;
+mod searches;
 mod stored;
 mod texts;
 mod writes;
@@ -45,6 +46,8 @@ const SORTS: &[Sort] = &[
     sort("checks", 30_000, checks::checks),
     // the step between a file's events, in every field of the state
     sort("replays", 2_500, replays::replays),
+    // the search for the next due, over any counts and entries
+    sort("dues", 30_000, searches::searches),
 ];
 
 fn main() {

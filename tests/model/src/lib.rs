@@ -6,18 +6,20 @@
 //!
 //! One processor; SCHED_FIFO, SCHED_RR and SCHED_SPORADIC; the state, the events, the
 //! trace file's reader and writer, the listing of a replay and the check of another
-//! one, and traces as text.
+//! one, traces as text, and the search for the next due.
 #![forbid(unsafe_code)]
 
 mod check;
 mod event;
 pub mod random;
+mod search;
 mod state;
 mod text;
 mod trace;
 
 pub use check::{verdict, Verdict};
 pub use event::{event, next_moment, open, pass, running, Answer, Event};
+pub use search::{next_due, Dues};
 pub use state::{assigned, in_range, sound, upper, List, Parameters, State, Thread};
 pub use text::{from_text, to_text, Made};
 pub use trace::{listing, read, total_bytes, write, Trace};
