@@ -10,11 +10,11 @@
 #include <sys/mman.h>
 
 enum { STACK = 1 << 20, PAINT = 0xa5, LONGEST = 65536 };
-enum { EVENT, OPEN, SOUND, READ, COPY, LISTING, CHECK, REPLAY, TO_TEXT, FUNCTIONS };
-static const char *const names[] = { "thawonlai_event", "thawonlai_open", "thawonlai_sound", "thawonlai_read", "thawonlai_copy",
-                                     "thawonlai_listing", "thawonlai_check", "thawonlai_replay", "thawonlai_to_text" };
+enum { EVENT, OPEN, SOUND, NEXT_DUE, READ, COPY, LISTING, CHECK, REPLAY, TO_TEXT, FUNCTIONS };
+static const char *const names[] = { "thawonlai_event", "thawonlai_open", "thawonlai_sound", "thawonlai_next_due", "thawonlai_read",
+                                     "thawonlai_copy", "thawonlai_listing", "thawonlai_check", "thawonlai_replay", "thawonlai_to_text" };
 /* by value, and too large for registers; a struct of up to 16 bytes goes in registers */
-static const size_t arguments[] = { sizeof(struct event), sizeof(struct table), sizeof(struct core), 0, 0, 0, 0, 0, 0 };
+static const size_t arguments[] = { sizeof(struct event), sizeof(struct table), sizeof(struct core), 0, 0, 0, 0, 0, 0, 0 };
 
 /* `at_F` notes where the stack stands as F is entered, and goes on to F. */
 char *entered;
@@ -24,6 +24,7 @@ char *entered;
 AT(thawonlai_event)
 AT(thawonlai_open)
 AT(thawonlai_sound)
+AT(thawonlai_next_due)
 AT(thawonlai_read)
 AT(thawonlai_copy)
 AT(thawonlai_listing)
@@ -48,6 +49,7 @@ static void *call(void *which) {
     case EVENT: at_thawonlai_event(&core, dues, amounts, event); break;
     case OPEN: opened = at_thawonlai_open((struct header){ .n = n, .start = start }, table, dues, amounts); break;
     case SOUND: at_thawonlai_sound(core, dues, amounts); break;
+    case NEXT_DUE: at_thawonlai_next_due(core.counts, dues, n); break;
     case READ: found = at_thawonlai_read(file, length); break;
     case COPY: at_thawonlai_copy(file, length, out, LONGEST); break;
     case LISTING: listed = at_thawonlai_listing(file, length, out, LONGEST); break;
@@ -95,9 +97,10 @@ int main(int count, char **words) {
         for (size_t i = 0; i < found.count; i++, events++) {
             memcpy(&event, file + 32 + n * sizeof(struct parameters) + i * sizeof event, sizeof event);
             measure(EVENT);
-            if (i % 16 == 0) measure(SOUND);
+            if (i % 16 == 0) measure(SOUND), measure(NEXT_DUE);
         }
         measure(SOUND);
+        measure(NEXT_DUE);
     }
     printf("%d files, %d events; a state has %zu bytes\n", count - 1, events, sizeof core + sizeof dues + sizeof amounts);
     puts("| Function | Stack | Arguments on the stack |\n|---|---|---|");

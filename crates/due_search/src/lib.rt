@@ -1,14 +1,26 @@
 // The search for the next due: threads that have nothing pending are passed over, and of the rest only the first due is read.
+//
+// Which threads those are is put into a word first, a bit for each, and its lowest bit is taken off until none is left; few threads are
+// looked at one by one, since the word costs more.
 ghost use mathlib.Core.Path.{_≡_};
 ghost use mathlib.Core.Bool.{cond};
-ghost use Prim.Native.Nat.{_≤_};
-ghost use lib.Dec.{eqb};
+ghost use Prim.Native.Nat.{_-_, _<_, _≤_, _^_};
+ghost use lib.Bits.{bitAnd};
+ghost use lib.Count.{trailingZeros};
+ghost use lib.Dec.{eqb, ltb};
 ghost use Rattle.records.specs.Ranges.{mostThreads};
-ghost use Rattle.due_search.specs.Search.{sooner, nextDue};
+ghost use Rattle.due_search.specs.Search.{firstDue, sooner, nextDue};
 ghost use Rattle.due_search.specs.Kept.{NextAfter, NoneBefore};
+ghost use Rattle.due_search.specs.Private.{PendingWord};
 use account::ENTRIES;
 use records::THREADS;
 use rows::SLOTS;
+
+// The slot of a thread's first entry among its own.
+const FIRST: usize = 0;
+
+// From so many threads on the word is quicker.
+const MANY: usize = 8;
 
 // The first of the dues, and the lowest thread that has it; thread THREADS for none.
 pub struct Due {
@@ -34,6 +46,22 @@ pub fn next_due_from<'a>(
     requires { ⌜ (n ≤ mostThreads) × NoneBefore (now counts) (now dues) n earliest ⌝ }
     ensures { λ r. ⌜ r ≡ nextDue (now (counts .entry)) (now (dues .entry)) n ⌝ }
 {
+    if n < MANY {
+        return each_thread(counts, dues, n, earliest);
+    }
+    by_word(counts, dues, n, earliest)
+}
+
+// The same, thread by thread.
+fn each_thread<'a>(
+    counts: &'a [u8; THREADS],
+    dues: &'a [u64; SLOTS],
+    n: usize,
+    earliest: u64,
+) -> Due
+    requires { ⌜ (n ≤ mostThreads) × NoneBefore (now counts) (now dues) n earliest ⌝ }
+    ensures { λ r. ⌜ r ≡ nextDue (now (counts .entry)) (now (dues .entry)) n ⌝ }
+{
     let mut best = Due {
         due: 0,
         thread: THREADS,
@@ -42,11 +70,10 @@ pub fn next_due_from<'a>(
     while i < n {
         let k = i;
         i = i + 1;
-        let count = counts[k];
-        if count == 0 {
+        if counts[k] == 0 {
             continue;
         }
-        best = sooner_of(best, k, count, dues[k * ENTRIES]);
+        best = sooner_of(best, k, first_due(dues, k));
         if best.due <= earliest {
             return best;
         }
@@ -54,20 +81,100 @@ pub fn next_due_from<'a>(
     best
 }
 
-// The sooner of the best so far and thread k, whose first due is d and which has `count` pending.
-fn sooner_of(best: Due, k: usize, count: u8, d: u64) -> Due
-    ensures { λ r. ⌜ r ≡ cond (eqb count 0) best (sooner k d best) ⌝ }
+// The same, through the word of the threads that have something pending.
+fn by_word<'a>(counts: &'a [u8; THREADS], dues: &'a [u64; SLOTS], n: usize, earliest: u64) -> Due
+    requires { ⌜ (n ≤ mostThreads) × NoneBefore (now counts) (now dues) n earliest ⌝ }
+    ensures { λ r. ⌜ r ≡ nextDue (now (counts .entry)) (now (dues .entry)) n ⌝ }
 {
-    if count == 0 {
-        return best;
+    let word = pending_word(counts);
+    let first = lowest(word);
+    if n <= first {
+        return Due {
+            due: 0,
+            thread: THREADS,
+        };
     }
-    if best.thread == THREADS {
-        return Due { due: d, thread: k };
+    let mut rest = without_lowest(word);
+    let mut best = Due {
+        due: first_due(dues, first),
+        thread: first,
+    };
+    while earliest < best.due {
+        let k = lowest(rest);
+        if n <= k {
+            return best;
+        }
+        rest = without_lowest(rest);
+        best = lesser_of(best, k, first_due(dues, k));
     }
+    best
+}
+
+// The threads that have something pending, a bit for each.
+fn pending_word(counts: &[u8; THREADS]) -> u32
+    ensures { λ r. ⌜ PendingWord (now (counts .entry)) r ⌝ }
+{
+    let mut word: u32 = 0;
+    let mut k: usize = 0;
+    while k < THREADS {
+        word = word + pending_bit(counts[k], k);
+        k = k + 1;
+    }
+    word
+}
+
+// The bit of thread i where it has something pending, else 0.
+fn pending_bit(count: u8, i: usize) -> u32
+    requires { ⌜ i < mostThreads ⌝ }
+    ensures { λ r. ⌜ r ≡ cond (eqb count 0) 0 (2 ^ i) ⌝ }
+{
+    if 0 < count {
+        return 1u32 << (i as u32);
+    }
+    0
+}
+
+// The lowest thread of a word, THREADS where it has none.
+fn lowest(word: u32) -> usize
+    ensures { λ r. ⌜ r ≡ trailingZeros 32 word ⌝ }
+{
+    u32::trailing_zeros(word) as usize
+}
+
+// The word without its lowest thread.
+fn without_lowest(word: u32) -> u32
+    requires { ⌜ 0 < word ⌝ }
+    ensures { λ r. ⌜ r ≡ bitAnd word (word - 1) ⌝ }
+{
+    word & (word - 1)
+}
+
+// The first due of thread i.
+fn first_due(dues: &[u64; SLOTS], i: usize) -> u64
+    requires { ⌜ i < mostThreads ⌝ }
+    ensures { λ r. ⌜ r ≡ firstDue (now (dues .entry)) i ⌝ }
+{
+    dues[i * ENTRIES + FIRST]
+}
+
+// The lesser of the best so far and the first due d of thread k.
+fn lesser_of(best: Due, k: usize, d: u64) -> Due
+    ensures { λ r. ⌜ r ≡ cond (ltb d (best .due)) (record { due = d; thread = k }) best ⌝ }
+{
     if d < best.due {
         return Due { due: d, thread: k };
     }
     best
+}
+
+// The same, where there may be no best so far.
+fn sooner_of(best: Due, k: usize, d: u64) -> Due
+    ensures { λ r. ⌜ r ≡ sooner k d best ⌝ }
+{
+    if best.thread == THREADS {
+        return Due { due: d, thread: k };
+    }
+    lesser_of(best, k, d)
 }
 
 // The next due after a limit of thread k, which has `count` entries then, the first due at d: that of the counts and dues
@@ -79,7 +186,7 @@ pub fn after_limit(x: Due, k: usize, count: u8, d: u64) -> Due
         return x;
     }
     if d != x.due {
-        return sooner_of(x, k, count, d);
+        return sooner_of(x, k, d);
     }
     // at equal dues the lower thread comes first
     if k < x.thread {

@@ -3,7 +3,6 @@ use native.Mathlib.Omega.{arith}
 use Prim.Native.Nat.{_<_}
 use mathlib.Core.Path.{_≡_, _∙_}
 use borrow.Author.Tests.{lt-ltb, le-ltb, eq-eqb, ne-eqb}
-use Rattle.base.proofs.TestLaws.{cond-false}
 use Rattle.due_search.specs.declared.Due.{Due}
 use Rattle.due_search.proofs.DueLaws.{afterEntry, entry-came}
 use Rattle.due_search.proofs.after_limit.Statement.{statement}
@@ -23,7 +22,7 @@ returns-2 c counts dues n h =
     let a = c .before .before .before .before .args in
     let z = ne-eqb _ _ (c .before .before .before .if1 .left) in
     let e : c .sooner-of .result ≡ afterEntry (a .x) (a .k) (a .count) (a .d) =
-    simp (z, ne-eqb _ _ (c .before .if2 .taken)) (c .sooner-of .ensures ∙ cond-false _ _ _ z) in
+    simp (z, ne-eqb _ _ (c .before .if2 .taken)) (c .sooner-of .ensures) in
     e ∙ entry-came (a .x) (a .k) (a .count) (a .d) counts dues n h
 
 returns-3 : tie.Need-returns-3
