@@ -1,5 +1,5 @@
 -- A machine to compute with, a timer that fires every `period` ticks until it is stopped, and rows of its answers.
-use Prim.Native.Nat.{ℕ, _+_, _-_}
+use Prim.Native.Nat.{ℕ, _+_, _-_, _*_}
 use mathlib.Core.Bool.{cond, _&&_}
 use mathlib.Core.Path.{_≡_, refl}
 use mathlib.Core.List.{List, [], _∷_, map}
@@ -8,7 +8,8 @@ use native.Mathlib.Omega.{arith}
 use Rattle.passing.specs.Time.{Clock, run}
 use Rattle.base.specs.Refusals.{firstRefusal}
 use Rattle.passing.specs.Sequence.{Machine, Answer, status, answer, answers}
-use Rattle.passing.specs.Readings.{Entry, Placed}
+use Rattle.passing.specs.Readings.{Entry, second, Placed}
+use Rattle.passing.specs.Reports.{Reports, report, reports, sums}
 
 -- ticks left up to the next moment, 0 once it is stopped
 pub record Timer : Type 0 where
@@ -117,3 +118,32 @@ late-row h = omega (arith, h .0 .1 .1)
 refused-row : Placed timer fifth fifth (before (6 ∷ []) 7 2) → ⊥
 unfolding run firstRefusal status answer
 refused-row h = omega (arith, h .0 .0)
+
+-- Reports: 1 for each moment, with what is left then, which is 0; 100 for each tick; 10 where the timer is stopped.
+abbrev pub counted : Reports Timer ℕ
+counted = record { none = 0; plus = λ a b. a + b; charged = λ k s. 100 * k; fired = λ s. 1 + s .left }
+
+abbrev pub stopped : Timer → Request → ℕ
+stopped s e = cond (eqb (e .kind) 1) 10 0
+
+abbrev asked : ℕ → ℕ → Request
+asked t k = record { time = t; kind = k }
+
+-- a moment at the request's very time; the same time again; ticks only; refused; four moments; a moment and the stop; ticks only
+report-row : reports timer counted stopped fresh
+    (asked 5 0 ∷ asked 5 0 ∷ asked 7 0 ∷ asked 12 2 ∷ asked 27 0 ∷ asked 30 1 ∷ asked 40 0 ∷ [])
+    ≡ 501 ∷ 0 ∷ 200 ∷ 0 ∷ 2004 ∷ 311 ∷ 1000 ∷ []
+unfolding run firstRefusal status answer report
+report-row = refl
+
+-- two requests, the first with three extra readings before it: what each event of the second sequence reports, and the two sums
+abbrev spread : List (Entry Request)
+spread = record { times = 3 ∷ 5 ∷ 5 ∷ []; event = asked 12 1 } ∷ record { times = []; event = asked 11 0 } ∷ []
+
+spread-row : reports timer counted stopped fresh (second timer spread) ≡ 300 ∷ 201 ∷ 0 ∷ 711 ∷ 0 ∷ []
+unfolding run firstRefusal status answer report
+spread-row = refl
+
+sums-row : sums counted spread (reports timer counted stopped fresh (second timer spread)) ≡ 1212 ∷ 0 ∷ []
+unfolding run firstRefusal status answer report
+sums-row = refl

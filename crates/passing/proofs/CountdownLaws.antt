@@ -9,10 +9,12 @@ use borrow.Author.Tests.{ltb-true, leb-true, lt-ltb, le-ltb, le-leb}
 use Rattle.passing.specs.Time.{run, moment}
 use Rattle.base.specs.Refusals.{firstRefusal}
 use Rattle.passing.specs.Sequence.{status, answer}
-use Rattle.passing.specs.Readings.{Entry, Placed, SameAnswers}
+use Rattle.passing.specs.Readings.{Entry, first, second, Placed, SameAnswers}
+use Rattle.passing.specs.Reports.{reports, sums}
 use Rattle.passing.proofs.TimeLaws.{Laws}
 use Rattle.passing.proofs.ReadingsLaws.{MachineLaws, extra-readings}
-use Rattle.passing.proofs.Countdown.{Timer, Request, next, charge, clock, timer, fresh}
+use Rattle.passing.proofs.ReportLaws.{ReportLaws, reports-add-up}
+use Rattle.passing.proofs.Countdown.{Timer, Request, next, charge, clock, timer, fresh, counted, stopped}
 
 abbrev Sound : Timer → Type 0
 Sound s = timer .sound s ≡ true
@@ -83,3 +85,16 @@ placed = ((refl, omega arith), (tt, ((refl, omega arith), tt)))
 
 placed-same : SameAnswers timer fresh entries
 placed-same = extra-readings timer laws fresh entries placed
+
+-- its reports meet theirs, and add up
+counts : ReportLaws clock counted Sound
+counts =
+    record {
+      none-plus = λ r. omega arith;
+      plus-none = λ r. omega arith;
+      plus-plus = λ a b c. omega arith;
+      charged-add = λ i j s h. omega arith;
+    }
+
+placed-sums : sums counted entries (reports timer counted stopped fresh (second timer entries)) ≡ reports timer counted stopped fresh (first entries)
+placed-sums = reports-add-up timer counted stopped laws counts (λ s t. refl) fresh entries placed

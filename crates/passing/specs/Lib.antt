@@ -3,3 +3,4 @@
 pub mod Time
 pub mod Sequence
 pub mod Readings
+pub mod Reports
