@@ -3,4 +3,5 @@ pub mod FitLaws
 pub mod EventLaws
 pub mod OpeningLaws
 pub mod DemandLaws
+pub mod ReportLaws
 pub mod Computed

@@ -4,3 +4,4 @@ pub mod Answers
 pub mod Opening
 pub mod Demand
 pub mod Table
+pub mod Reports

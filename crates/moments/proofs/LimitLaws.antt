@@ -10,6 +10,7 @@ use native.Mathlib.Omega.{arith}
 use native.Mathlib.Decide.{ℕ-discrete}
 use borrow.Author.Tests.{eqb-true, eq-eqb, ne-eqb}
 use Rattle.records.specs.declared.Parameters.{Parameters}
+use Rattle.records.specs.Ranges.{byPolicy}
 use Rattle.base.proofs.TestLaws.{tests, All, cond-true, cond-false}
 use Rattle.sporadic.specs.declared.Server.{Server}
 use Rattle.account.specs.declared.Pending.{Pending}
@@ -61,27 +62,38 @@ no-limit p t q z g a =
     and-no (eqb p (t .parameters .priority)) (eqb (t .server .capacity) 0)
     (λ e. ne-eqb (t .server .capacity) 0 (λ c. omega (arith, upper-room (t .parameters) (record { server = t .server; pending = q }) (upper-at p t q z (low-lt (t .parameters) (t .blocked) g) a e) .0)))
 
--- a sound thread in the list of its assigned priority is at no limit
-thread-none : (start now lo p i : ℕ) (b : Bool) (t : Thread) (q : Pending) (s : State) → ThreadSound start now lo b t q → assigned t (q .count) ≡ p
-    → limitsOf p i t s ≡ s
-thread-none start now lo p i b t q s (absent n e f) a = by-zero (t .parameters .policy) _ _ _ (ap (λ (x : Thread). x .parameters .policy) e)
-thread-none start now lo p i b t q s (fifo n z g l v f) a = by-zero (t .parameters .policy) _ _ _ z
-thread-none start now lo p i b t q s (rr n z g l v f) a =
-    by-one (t .parameters .policy) _ _ _ z ∙ cond-false (eqb (t .left) 0) _ _ (ne-eqb (t .left) 0 (λ e. omega (tests, l)))
-thread-none start now lo p i b t q s (sporadic n z g l v) a =
-    by-two (t .parameters .policy) _ _ _ z ∙ cond-false (eqb p (t .parameters .priority) && eqb (t .server .capacity) 0) _ _ (no-limit p t q z g a)
+-- what is chosen at a moment for the running thread t in list p: x where nothing happens to it, y at the end of its quantum, z at its limit
+abbrev pub chosenFor : {A : Type 0} → A → A → A → ℕ → Thread → A
+chosenFor x y z p t = byPolicy (t .parameters .policy) x (cond (eqb (t .left) 0) y x) (cond (eqb p (t .parameters .priority) && eqb (t .server .capacity) 0) z x)
 
--- so in a sound state nothing happens
+abbrev pub chosen : {A : Type 0} → A → A → A → State → A
+chosen x y z s = cond (idles s) x (chosenFor x y z (level s) (threadAt s (head s)))
+
+module _ {A : Type 0} (x y z : A) where
+  -- a sound thread in the list of its assigned priority is at no limit
+  thread-none : (start now lo p : ℕ) (b : Bool) (t : Thread) (q : Pending) → ThreadSound start now lo b t q → assigned t (q .count) ≡ p → chosenFor x y z p t ≡ x
+  thread-none start now lo p b t q (absent n e f) a = by-zero (t .parameters .policy) _ _ _ (ap (λ (x : Thread). x .parameters .policy) e)
+  thread-none start now lo p b t q (fifo n c g l v f) a = by-zero (t .parameters .policy) _ _ _ c
+  thread-none start now lo p b t q (rr n c g l v f) a =
+      by-one (t .parameters .policy) _ _ _ c ∙ cond-false (eqb (t .left) 0) _ _ (ne-eqb (t .left) 0 (λ e. omega (tests, l)))
+  thread-none start now lo p b t q (sporadic n c g l v) a =
+      by-two (t .parameters .policy) _ _ _ c ∙ cond-false (eqb p (t .parameters .priority) && eqb (t .server .capacity) 0) _ _ (no-limit p t q c g a)
+
+  -- so in a sound state
+  pub chosen-none : (lo : ℕ → ℕ) (s : State) → SoundFrom lo s → chosen x y z s ≡ x
+  chosen-none lo s h = go (idles s) refl
+    where
+      go : (b : Bool) → idles s ≡ b → cond b x (chosenFor x y z (level s) (threadAt s (head s))) ≡ x
+      go true e = refl
+      go false e =
+          let r = runs lo s h e in
+          thread-none (s .header .start) (s .now) (lo (head s)) (level s) (ltb (head s) (s .header .n)) (threadAt s (head s)) (pendingAt s (head s))
+          (h .each (head s) (r .small)) (r .stands)
+
+-- nothing happens there
 pub limits-none : (lo : ℕ → ℕ) (s : State) → SoundFrom lo s → limits s ≡ s
 unfolding limits
-limits-none lo s h = go (idles s) refl
-  where
-    go : (b : Bool) → idles s ≡ b → cond b s (limitsOf (level s) (head s) (threadAt s (head s)) s) ≡ s
-    go true e = refl
-    go false e =
-        let r = runs lo s h e in
-        thread-none (s .header .start) (s .now) (lo (head s)) (level s) (head s) (ltb (head s) (s .header .n)) (threadAt s (head s)) (pendingAt s (head s)) s
-        (h .each (head s) (r .small)) (r .stands)
+limits-none lo s h = chosen-none s _ _ lo s h
 
 -- ---- the running thread after its last tick
 

@@ -36,9 +36,10 @@ use Rattle.ticks.specs.Running.{level, head, idles, ran, charge, limitOf, limit
 use Rattle.ticks.proofs.RunLaws.{limit-rr, limit-upper, limit-lower}
 use Rattle.records.proofs.PolicyLaws.{by-zero, by-one, by-two, by-more}
 use Rattle.moments.specs.Changes.{withEffect}
-use Rattle.moments.specs.Moments.{quantumEnded, limitsOf, limits}
+use Rattle.moments.specs.Moments.{quantumEnded, limits}
 use Rattle.rows.specs.Rows.{slotsAt}
 use Rattle.moments.proofs.ChargeLaws.{Runs, runs, upper-at, ran-upper}
+use Rattle.moments.proofs.LimitLaws.{chosenFor, chosen}
 
 -- ---- where the account's rules send a thread
 
@@ -106,12 +107,10 @@ module _ (lo : ℕ → ℕ) (s : State) (a : SoundFrom lo s) (p : 0 < next s) (e
       ap (λ (ts : List Thread). getD ts (head s) noThread) (cond-false (idles s) _ _ limit-runs)
       ∙ getD-set-same (s .threads) (head s) (ran (level s) (next s - s .now) (threadAt s (head s))) noThread (omega (tests, a .sizes, run .small))
 
-  limits-are : limits (charge (next s - s .now) s)
-      ≡ limitsOf (level s) (head s) (ran (level s) (next s - s .now) (threadAt s (head s))) (charge (next s - s .now) s)
-  unfolding limits
-  limits-are =
-      cond-false (idles s) _ _ limit-runs
-      ∙ ap (λ (t : Thread). limitsOf (level s) (head s) t (charge (next s - s .now) s)) limit-thread
+  -- what is chosen for the thread after its ticks, as what happens to it and what is told of that
+  chosen-is : {A : Type 0} (x y z : A)
+      → chosen x y z (charge (next s - s .now) s) ≡ chosenFor x y z (level s) (ran (level s) (next s - s .now) (threadAt s (head s)))
+  chosen-is x y z = cond-false (idles s) _ _ limit-runs ∙ ap (chosenFor x y z (level s)) limit-thread
 
   standing : place s (head s) ≡ level s
   standing = cond-false (isBlocked (threadAt s (head s))) 0 _ (run .awake) ∙ run .stands
@@ -121,14 +120,21 @@ module _ (lo : ℕ → ℕ) (s : State) (a : SoundFrom lo s) (p : 0 < next s) (e
   quantum-movable =
       movable (place s) (s .word) (s .lists) (a .lists) (head s) (run .small) (level s) (level s) (run .range .0) (run .range .1) standing (run .range .0) (run .range .1)
 
-  pub quantum-is : threadAt s (head s) .parameters .policy ≡ 1
-      → quantumEnded (level s) (head s) (ran (level s) (next s - s .now) (threadAt s (head s))) (charge (next s - s .now) s) ≡ limits (charge (next s - s .now) s)
-  quantum-is z =
-      sym (limits-are ∙ by-one (threadAt s (head s) .parameters .policy) _ _ _ z ∙ cond-true (eqb (ran (level s) (next s - s .now) (threadAt s (head s)) .left) 0) _ _
-      (eq-eqb (ran (level s) (next s - s .now) (threadAt s (head s)) .left) 0 (by-one (threadAt s (head s) .parameters .policy) _ _ _ z ∙ none)))
+  pub quantum-chosen : {A : Type 0} (x y z : A) → threadAt s (head s) .parameters .policy ≡ 1 → chosen x y z (charge (next s - s .now) s) ≡ y
+  quantum-chosen x y z c =
+      chosen-is x y z ∙ by-one (threadAt s (head s) .parameters .policy) _ _ _ c
+      ∙ cond-true (eqb (ran (level s) (next s - s .now) (threadAt s (head s)) .left) 0) _ _
+      (eq-eqb (ran (level s) (next s - s .now) (threadAt s (head s)) .left) 0 (by-one (threadAt s (head s) .parameters .policy) _ _ _ c ∙ none))
     where
       none : threadAt s (head s) .left - (next s - s .now) ≡ 0
-      none = omega (arith, sym (limit-rr (s .now) (level s) (threadAt s (head s)) z) ∙ is)
+      none = omega (arith, sym (limit-rr (s .now) (level s) (threadAt s (head s)) c) ∙ is)
+
+  pub quantum-is : threadAt s (head s) .parameters .policy ≡ 1
+      → quantumEnded (level s) (head s) (ran (level s) (next s - s .now) (threadAt s (head s))) (charge (next s - s .now) s) ≡ limits (charge (next s - s .now) s)
+  unfolding limits
+  quantum-is z =
+      ap (λ (t : Thread). quantumEnded (level s) (head s) t (charge (next s - s .now) s)) (sym limit-thread)
+      ∙ sym (quantum-chosen (charge (next s - s .now) s) (quantumEnded (level s) (head s) (threadAt (charge (next s - s .now) s) (head s)) (charge (next s - s .now) s)) _ z)
 
   -- the limit of a sporadic thread
   module _ (d : threadAt s (head s) .parameters .policy ≡ 1 → ⊥) where
@@ -173,15 +179,11 @@ module _ (lo : ℕ → ℕ) (s : State) (a : SoundFrom lo s) (p : 0 < next s) (e
     server-is =
         ran-upper (level s) (next s - s .now) (threadAt s (head s)) (sporadic-here .policy) (eq-eqb (level s) (threadAt s (head s) .parameters .priority) at-upper)
 
-    pub limited-is : withEffect (head s)
-        (limitEffect (charge (next s - s .now) s .now) false (threadAt (charge (next s - s .now) s) (head s) .parameters) (threadAt (charge (next s - s .now) s) (head s) .server))
-        (charge (next s - s .now) s)
-        ≡ limits (charge (next s - s .now) s)
-    limited-is =
-        sym (limits-are ∙ by-more (threadAt s (head s) .parameters .policy) _ _ _ not-fifo d
+    pub limit-chosen : {A : Type 0} (x y z : A) → chosen x y z (charge (next s - s .now) s) ≡ z
+    limit-chosen x y z =
+        chosen-is x y z ∙ by-more (threadAt s (head s) .parameters .policy) _ _ _ not-fifo d
         ∙ cond-true (eqb (level s) (threadAt s (head s) .parameters .priority) && eqb (ran (level s) (next s - s .now) (threadAt s (head s)) .server .capacity) 0) _ _
         (both _ _ (eq-eqb (level s) (threadAt s (head s) .parameters .priority) at-upper) (eq-eqb _ 0 (ap (λ (x : Server). x .capacity) server-is ∙ none)))
-        ∙ ap (λ (x : Thread). withEffect (head s) (limitEffect (s .now + (next s - s .now)) false (x .parameters) (x .server)) (charge (next s - s .now) s)) (sym limit-thread))
       where
         both : (x y : Bool) → x ≡ true → y ≡ true → (x && y) ≡ true
         both true y b c = c
@@ -189,6 +191,19 @@ module _ (lo : ℕ → ℕ) (s : State) (a : SoundFrom lo s) (p : 0 < next s) (e
 
         none : threadAt s (head s) .server .capacity - (next s - s .now) ≡ 0
         none = omega (arith, used-up)
+
+    pub limited-is : withEffect (head s)
+        (limitEffect (charge (next s - s .now) s .now) false (threadAt (charge (next s - s .now) s) (head s) .parameters) (threadAt (charge (next s - s .now) s) (head s) .server))
+        (charge (next s - s .now) s)
+        ≡ limits (charge (next s - s .now) s)
+    unfolding limits
+    limited-is = sym (limit-chosen (charge (next s - s .now) s) _ _)
+
+    -- what is charged is at most the budget
+    pub limited-used : threadAt (charge (next s - s .now) s) (head s) .server .used ≤ 1000000000
+    limited-used =
+        let y = sporadic-here in
+        omega (tests, y .ranges, y .account .sums .0, used-up, ap (λ (x : Thread). x .server .used) limit-thread ∙ ap (λ (x : Server). x .used) server-is)
 
     -- what the rule requires
     pub limited-requires : Schedulable (threadAt (charge (next s - s .now) s) (head s) .parameters) (threadAt (charge (next s - s .now) s) (head s) .server)

@@ -72,7 +72,7 @@ sound-mid s h = bounds (λ i. s .now) (λ i. s .now - 1) s h (λ i l c. omega (a
 
 -- ---- threads with nothing due
 
-nothing-due : (now : ℕ) (q : Pending) → (0 < q .count → now < getD (q .dues) 0 0) → firstIsDue now q ≡ false
+pub nothing-due : (now : ℕ) (q : Pending) → (0 < q .count → now < getD (q .dues) 0 0) → firstIsDue now q ≡ false
 nothing-due now q f = go (ℕ-discrete (q .count) 0)
   where
     go : Dec (q .count ≡ 0) → firstIsDue now q ≡ false
@@ -84,7 +84,7 @@ unfolding replenish
 replenish-none zero i s e = refl
 replenish-none (suc k) i s e = cond-false (firstIsDue (s .now) (pendingAt s i)) _ _ e
 
-replenish-step : (k i : ℕ) (s : State) → firstIsDue (s .now) (pendingAt s i) ≡ true → replenish (suc k) i s ≡ replenish k i (firstReturned i s)
+pub replenish-step : (k i : ℕ) (s : State) → firstIsDue (s .now) (pendingAt s i) ≡ true → replenish (suc k) i s ≡ replenish k i (firstReturned i s)
 unfolding replenish
 replenish-step k i s e = cond-true (firstIsDue (s .now) (pendingAt s i)) _ _ e
 
@@ -92,13 +92,13 @@ below-suc : (n : ℕ) (s : State) → replenishBelow (suc n) s ≡ replenish (ge
 unfolding replenishBelow
 below-suc n s = refl
 
-below-none : (n : ℕ) (s : State) → ((j : ℕ) → j < n → firstIsDue (s .now) (pendingAt s j) ≡ false) → replenishBelow n s ≡ s
+pub below-none : (n : ℕ) (s : State) → ((j : ℕ) → j < n → firstIsDue (s .now) (pendingAt s j) ≡ false) → replenishBelow n s ≡ s
 unfolding replenishBelow
 below-none zero s f = refl
 below-none (suc n) s f = ap (λ (u : State). replenish (getD (u .counts) n 0) n u) (below-none n s (λ j l. f j (omega arith))) ∙ replenish-none (getD (s .counts) n 0) n s (f n (omega arith))
 
 -- what is the same below m is the same below n
-below-same : (m n : ℕ) (s u : State) → m ≤ n → replenishBelow m s ≡ replenishBelow m u → replenishBelow n s ≡ replenishBelow n u
+pub below-same : (m n : ℕ) (s u : State) → m ≤ n → replenishBelow m s ≡ replenishBelow m u → replenishBelow n s ≡ replenishBelow n u
 below-same m zero s u l e = subst (λ (k : ℕ). replenishBelow k s ≡ replenishBelow k u) (omega arith) e
 below-same m (suc n) s u l e = go (ℕ-discrete m (suc n)) (λ k. below-same m n s u k e)
   where
@@ -149,7 +149,7 @@ module _ (s : State) (h : Mid s) (d : firstOf s .thread ≡ 32 → ⊥) (e : fir
       let r = f .some d in
       omega (arith, r .2, row-first (firstOf s .thread) (s .dues), first-later (λ i. s .now - 1) s h (firstOf s .thread) first-small (r .1))
 
-  first-due : firstIsDue (s .now) (pendingAt s (firstOf s .thread)) ≡ true
+  pub first-due : firstIsDue (s .now) (pendingAt s (firstOf s .thread)) ≡ true
   first-due =
       let r = f .some d in
       rw (lt-ltb 0 (getD (s .counts) (firstOf s .thread) 0) (r .1))
@@ -163,48 +163,51 @@ module _ (s : State) (h : Mid s) (d : firstOf s .thread ≡ 32 → ⊥) (e : fir
   abbrev backed : State
   backed = firstReturned (firstOf s .thread) s
 
-  some : 0 < getD (s .counts) (firstOf s .thread) 0
-  some = f .some d .1
+  pub first-some : 0 < getD (s .counts) (firstOf s .thread) 0
+  first-some = f .some d .1
 
-  one-fewer : getD (backed .counts) (firstOf s .thread) 0 ≡ getD (s .counts) (firstOf s .thread) 0 - 1
-  one-fewer = first-counted-at (λ i. s .now - 1) s h (firstOf s .thread) first-small some
+  pub one-fewer : getD (backed .counts) (firstOf s .thread) 0 ≡ getD (s .counts) (firstOf s .thread) 0 - 1
+  one-fewer = first-counted-at (λ i. s .now - 1) s h (firstOf s .thread) first-small first-some
 
   pub backed-mid : Mid backed
-  backed-mid = first-returned-sound (λ i. s .now - 1) s h (firstOf s .thread) first-small some
+  backed-mid = first-returned-sound (λ i. s .now - 1) s h (firstOf s .thread) first-small first-some
 
-  -- threads below it have nothing due, and what is left comes back as before
-  pub backed-same : replenishBelow (s .header .n) backed ≡ replenishBelow (s .header .n) s
-  backed-same =
-      below-same (suc (firstOf s .thread)) (s .header .n) backed s (omega (arith, first-below))
-      (below-suc (firstOf s .thread) backed
-      ∙ ap turn (below-none (firstOf s .thread) backed still)
+  -- threads below it have nothing due, and still nothing once it has come back
+  pub first-lowest : (j : ℕ) → j < firstOf s .thread → firstIsDue (s .now) (pendingAt s j) ≡ false
+  first-lowest j l = nothing-due (s .now) (pendingAt s j) (λ c. omega (arith, f .lowest d j l c, first-now, row-first j (s .dues)))
+
+  pub still-lowest : (j : ℕ) → j < firstOf s .thread → firstIsDue (s .now) (pendingAt backed j) ≡ false
+  still-lowest j l =
+      ap (firstIsDue (s .now))
+      (pending-other s (firstOf s .thread) first-small (threadAt s (firstOf s .thread)) (applied back (accountAt s (firstOf s .thread))) (h .sizes)
+      (eight (back .due) (s .dues) (omega (tests, h .sizes))) (eight (back .amount) (s .amounts) (omega (tests, h .sizes))) j (λ q. omega arith))
+      ∙ first-lowest j l
+    where
+      eight : (x : ℕ) (xs : List ℕ) → length xs ≡ 256 → length (slotsAfter (back .first) (back .amount) (getD (s .counts) (firstOf s .thread) 0) x (slotsAt (firstOf s .thread) xs)) ≡ 8
+      eight x xs l =
+          let n = row-length (firstOf s .thread) xs first-small l in
+          slots-length (back .first) (back .amount) (getD (s .counts) (firstOf s .thread) 0) x (slotsAt (firstOf s .thread) xs) (omega arith) ∙ n
+
+  -- so what is left comes back as before, by its own turn and by those after it
+  pub backed-turn : replenishBelow (suc (firstOf s .thread)) backed ≡ replenishBelow (suc (firstOf s .thread)) s
+  backed-turn =
+      below-suc (firstOf s .thread) backed
+      ∙ ap turn (below-none (firstOf s .thread) backed still-lowest)
       ∙ more (getD (s .counts) (firstOf s .thread) 0) refl
-      ∙ sym (below-suc (firstOf s .thread) s ∙ ap turn (below-none (firstOf s .thread) s below)))
+      ∙ sym (below-suc (firstOf s .thread) s ∙ ap turn (below-none (firstOf s .thread) s first-lowest))
     where
       turn : State → State
       turn u = replenish (getD (u .counts) (firstOf s .thread) 0) (firstOf s .thread) u
 
       more : (n : ℕ) → getD (s .counts) (firstOf s .thread) 0 ≡ n
           → replenish (getD (backed .counts) (firstOf s .thread) 0) (firstOf s .thread) backed ≡ replenish (getD (s .counts) (firstOf s .thread) 0) (firstOf s .thread) s
-      more zero q = absurd (omega (arith, some))
+      more zero q = absurd (omega (arith, first-some))
       more (suc n) q =
           let m : getD (backed .counts) (firstOf s .thread) 0 ≡ n = omega (arith, one-fewer) in
           ap (λ (k : ℕ). replenish k (firstOf s .thread) backed) m ∙ sym (replenish-step n (firstOf s .thread) s first-due) ∙ ap (λ (k : ℕ). replenish k (firstOf s .thread) s) (sym q)
 
-      below : (j : ℕ) → j < firstOf s .thread → firstIsDue (s .now) (pendingAt s j) ≡ false
-      below j l = nothing-due (s .now) (pendingAt s j) (λ c. omega (arith, f .lowest d j l c, first-now, row-first j (s .dues)))
-
-      still : (j : ℕ) → j < firstOf s .thread → firstIsDue (s .now) (pendingAt backed j) ≡ false
-      still j l =
-          ap (firstIsDue (s .now))
-          (pending-other s (firstOf s .thread) first-small (threadAt s (firstOf s .thread)) (applied back (accountAt s (firstOf s .thread))) (h .sizes)
-          (eight (back .due) (s .dues) (omega (tests, h .sizes))) (eight (back .amount) (s .amounts) (omega (tests, h .sizes))) j (λ q. omega arith))
-          ∙ below j l
-        where
-          eight : (x : ℕ) (xs : List ℕ) → length xs ≡ 256 → length (slotsAfter (back .first) (back .amount) (getD (s .counts) (firstOf s .thread) 0) x (slotsAt (firstOf s .thread) xs)) ≡ 8
-          eight x xs l =
-              let n = row-length (firstOf s .thread) xs first-small l in
-              slots-length (back .first) (back .amount) (getD (s .counts) (firstOf s .thread) 0) x (slotsAt (firstOf s .thread) xs) (omega arith) ∙ n
+  pub backed-same : replenishBelow (s .header .n) backed ≡ replenishBelow (s .header .n) s
+  backed-same = below-same (suc (firstOf s .thread)) (s .header .n) backed s (omega (arith, first-below)) backed-turn
 
   -- one entry fewer
   pub backed-fewer : sum (backed .counts) < sum (s .counts)
@@ -212,15 +215,15 @@ module _ (s : State) (h : Mid s) (d : firstOf s .thread ≡ 32 → ⊥) (e : fir
       let i = firstOf s .thread in
       omega (
         arith,
-        some,
-        first-counted (s .now) (isBlocked (threadAt s i)) (threadAt s i .parameters) (accountAt s i) some,
+        first-some,
+        first-counted (s .now) (isBlocked (threadAt s i)) (threadAt s i .parameters) (accountAt s i) first-some,
         sum-set (s .counts) i (countAfter (back .first) (back .amount) (getD (s .counts) i 0)) (omega (tests, h .sizes, first-small)),
       )
 
 -- ---- nothing is due now
 
 module _ (s : State) (h : Mid s) (q : 0 < firstOf s .due → s .now < firstOf s .due) where
-  settled : (i : ℕ) → i < 32 → 0 < getD (s .counts) i 0 → s .now < getD (slotsAt i (s .dues)) 0 0
+  pub settled : (i : ℕ) → i < 32 → 0 < getD (s .counts) i 0 → s .now < getD (slotsAt i (s .dues)) 0 0
   settled i l c = let r = next-due (λ i. s .now - 1) s h i l c in omega (arith, q (r .0), r .1)
 
   pub settled-sound : Sound s
@@ -230,7 +233,7 @@ module _ (s : State) (h : Mid s) (q : 0 < firstOf s .due → s .now < firstOf s 
   settled-same = below-none (s .header .n) s (λ j l. nothing-due (s .now) (pendingAt s j) (settled j (omega (tests, h .sizes))))
 
 -- so it is where the next moment is after now, or where there is none
-due-later : (s : State) → (0 < next s → s .now < next s) → 0 < firstOf s .due → s .now < firstOf s .due
+pub due-later : (s : State) → (0 < next s → s .now < next s) → 0 < firstOf s .due → s .now < firstOf s .due
 due-later s q p = let y = earlier-right (limit s) (firstOf s .due) p in omega (arith, q (y .0), y .1)
 
 -- ---- no ticks
@@ -259,7 +262,7 @@ ran-none p t =
     server (suc (suc c)) true = charged-none (t .server)
     server (suc (suc c)) false = refl
 
-charge-none : (s : State) → charge 0 s ≡ s
+pub charge-none : (s : State) → charge 0 s ≡ s
 charge-none s =
     λ x. stateOf (s .header) (n x) (i (idles s) x) (s .word) (t (idles s) x) (s .counts) (s .dues) (s .amounts) (s .lists)
   where
@@ -331,7 +334,7 @@ module _ (s₀ s : State) (t : ℕ) (g : Going s₀ t s) where
 
     -- no limit: the first due is at the next moment, which may be now
     module _ (e : limit s ≡ next s → ⊥) where
-      is-due : (next s ≡ firstOf s .due) × (0 < limit s → firstOf s .due < limit s)
+      pub is-due : (next s ≡ firstOf s .due) × (0 < limit s → firstOf s .due < limit s)
       is-due = earlier-other (limit s) (firstOf s .due) e
 
       pub due-some : firstOf s .thread ≡ 32 → ⊥

@@ -8,7 +8,7 @@ use native.Mathlib.Omega.{arith}
 use borrow.Author.Tests.{ne-eqb}
 use Rattle.passing.specs.Time.{Clock, dueBy, chargeTo, moment, run, advance}
 use Rattle.passing.specs.Sequence.{Machine, Answer, status, answer, end}
-use Rattle.passing.specs.Readings.{Entry, first, Ordered, readings, second, Allowed}
+use Rattle.passing.specs.Readings.{Ordered, readings, second, Allowed}
 use Rattle.passing.specs.Reports.{Reports, Reported, reporting, reportedTo, report, reports, total, sums, ReportsAddUp}
 use Rattle.passing.proofs.TimeLaws.{Laws, advance-rest, advance-due, advance-advance}
 use Rattle.passing.proofs.SequenceLaws.{answer-status, Acceptable, acceptable, status-acceptable}

@@ -1,0 +1,5 @@
+-- What a log tells, by computing.
+pub mod Computed
+-- Laws of what is told.
+pub mod TallyLaws
+pub mod NumberLaws
