@@ -179,7 +179,7 @@ module _ (header : Header) (top : header .start ≤ 1000000000000000) where
       (entered-sound k (enteredBelow k table (emptyState header)) (below-entered table k (omega arith) (λ i m. r i (omega arith))) (omega arith) (getD table k noParameters) (r k (omega arith)))
 
 -- N stays what the opening was given
-header-entered : (table : List Parameters) (k : ℕ) (s : State) → enteredBelow k table s .header ≡ s .header
+pub header-entered : (table : List Parameters) (k : ℕ) (s : State) → enteredBelow k table s .header ≡ s .header
 unfolding enteredBelow
 header-entered table zero s = refl
 header-entered table (suc k) s = header-entered table k s

@@ -5,6 +5,7 @@ use mathlib.Core.Path.{_≡_, refl, sym, ap, ap₂, _∙_}
 use mathlib.Core.List.{List, [], _∷_, _++_, map}
 use lib.ListN.{length, take, drop, length-map}
 use native.Mathlib.Omega.{arith}
+use lib.Dec.{eqb}
 use borrow.Author.Tests.{ne-eqb}
 use Rattle.passing.specs.Time.{Clock, dueBy, chargeTo, moment, run, advance}
 use Rattle.passing.specs.Sequence.{Machine, Answer, status, answer, end}
@@ -199,3 +200,61 @@ module _ {S E R : Type 0} (M : Machine S E) (P : Reports S R) (own : S → E →
         (ap₂ (λ (r : R) (l : List R). r ∷ l)
         (ap (total P) (sym (reports-append s cs (e ∷ []))) ∙ entry-adds s (x .times) e (h .0))
         (ap (λ (a : Answer S). sums P xs (allTold (a .state) (second M xs))) (u .same) ∙ reports-add-up (answer M s e .state) xs (rw (u .same) at (h .1))))
+
+-- ---- what is read off reports is itself a report
+
+module _ {S R T : Type 0} (P : Reports S R) (Q : Reports S T) (read : R → T) (none : read (P .none) ≡ Q .none)
+    (plus : (a b : R) → read (P .plus a b) ≡ Q .plus (read a) (read b)) where
+  pub total-read : (rs : List R) → read (total P rs) ≡ total Q (map read rs)
+  total-read [] = none
+  total-read (r ∷ rs) = plus r (total P rs) ∙ ap (Q .plus (read r)) (total-read rs)
+
+  module _ (C : Clock S) (charged : (k : ℕ) (s : S) → read (P .charged k s) ≡ Q .charged k s) (fired : (s : S) → read (P .fired s) ≡ Q .fired s) where
+    abbrev reads : Reported S R → Reported S T
+    reads u = record { state = u .state; report = read (u .report) }
+
+    charge-read : (k : ℕ) (u : Reported S R) → reporting C Q .charge k (reads u) ≡ reads (reporting C P .charge k u)
+    charge-read k u =
+        λ x. record { state = C .charge k (u .state); report = (ap (Q .plus (read (u .report))) (sym (charged k (u .state))) ∙ sym (plus (u .report) (P .charged k (u .state)))) x }
+
+    fire-read : (u : Reported S R) → reporting C Q .fire (reads u) ≡ reads (reporting C P .fire u)
+    fire-read u =
+        λ x. record { state = C .fire (u .state); report = (ap (Q .plus (read (u .report))) (sym (fired (u .state))) ∙ sym (plus (u .report) (P .fired (u .state)))) x }
+
+    run-read : (k : ℕ) (u : Reported S R) (t : ℕ) → run (reporting C Q) k (reads u) t ≡ reads (run (reporting C P) k u t)
+    unfolding run
+    run-read zero u t = charge-read _ u
+    run-read (suc k) u t =
+        choice (dueBy (C .next (u .state)) t) _ _ _ _
+        (ap (λ (v : Reported S T). run (reporting C Q) k v t) (ap (reporting C Q .fire) (charge-read _ u) ∙ fire-read (chargeTo (reporting C P) u (C .next (u .state))))
+        ∙ run-read k (moment (reporting C P) u) t)
+        (charge-read _ u)
+        ∙ sym (part reads (dueBy (C .next (u .state)) t) _ _)
+
+    pub reported-read : (s : S) (t : ℕ) → read (reportedTo C P s t) ≡ reportedTo C Q s t
+    reported-read s t =
+        ap (λ (v : Reported S T). v .report) (sym (run-read (t - C .now s) (record { state = s; report = P .none }) t))
+        ∙ ap (λ (r : T). advance (reporting C Q) (record { state = s; report = r }) t .report) none
+
+module _ {S E R T : Type 0} (M : Machine S E) (P : Reports S R) (Q : Reports S T) (read : R → T) (none : read (P .none) ≡ Q .none)
+    (plus : (a b : R) → read (P .plus a b) ≡ Q .plus (read a) (read b)) (charged : (k : ℕ) (s : S) → read (P .charged k s) ≡ Q .charged k s)
+    (fired : (s : S) → read (P .fired s) ≡ Q .fired s) (own : S → E → R) where
+  abbrev ownRead : S → E → T
+  ownRead s e = read (own s e)
+
+  report-read : (s : S) (e : E) → read (report M P own s e) ≡ report M Q ownRead s e
+  unfolding report
+  report-read s e =
+      part read (eqb (status M s e) 0) _ _
+      ∙ choice (eqb (status M s e) 0) _ _ _ _
+      (plus (reportedTo (M .clock) P s (M .time e)) (own (advance (M .clock) s (M .time e)) e)
+      ∙ ap (λ (r : T). Q .plus r (ownRead (advance (M .clock) s (M .time e)) e)) (reported-read P Q read none plus (M .clock) charged fired s (M .time e)))
+      none
+
+  reports-read : (s : S) (es : List E) → map read (reports M P own s es) ≡ reports M Q ownRead s es
+  reports-read s [] = refl
+  reports-read s (e ∷ es) = ap₂ (λ (r : T) (rs : List T). r ∷ rs) (report-read s e) (reports-read (answer M s e .state) es)
+
+  -- over a whole sequence
+  pub all-read : (s : S) (es : List E) → total Q (reports M Q ownRead s es) ≡ read (total P (reports M P own s es))
+  all-read s es = ap (total Q) (sym (reports-read s es)) ∙ sym (total-read P Q read none plus (reports M P own s es))

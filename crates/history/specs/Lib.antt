@@ -1,0 +1,2 @@
+-- What a reader of `history` must believe.
+pub mod History

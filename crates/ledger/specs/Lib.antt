@@ -1,0 +1,2 @@
+-- What a reader of `ledger` must believe.
+pub mod Ledger
