@@ -20,6 +20,7 @@ use Rattle.events.specs.Events.{changeOf, happened}
 use Rattle.events.specs.Answers.{fieldStatusOf, stateStatusOf}
 use Rattle.events.specs.Opening.{enteredBelow, openStatus, opening}
 use Rattle.history.specs.History.{Replayed, RanLow}
+use Rattle.history.specs.Bound.{Reached, MostIn}
 
 pub replayed : Replayed
 unfolding lib.Count.leadingZeros all below fifoInRange rrInRange sporadicInRange inRange allZero scheduled limitEffect returnEffect soundAt withThreads without occurs wordOf occupancy soundRow soundRows soundLists run firstRefusal status answer withSlots presentTest absentTest soundState nextDue limits replenish replenishBelow fire changeOf happened fieldStatusOf stateStatusOf enteredBelow openStatus opening report limitLog replenishLog belowLog
@@ -28,3 +29,12 @@ replayed = record { ran = refl; budget = refl; capacity = refl; returned = refl;
 pub ran-low : RanLow
 unfolding lib.Count.leadingZeros all below fifoInRange rrInRange sporadicInRange inRange allZero scheduled limitEffect returnEffect soundAt withThreads without occurs wordOf occupancy soundRow soundRows soundLists run firstRefusal status answer withSlots presentTest absentTest soundState nextDue limits replenish replenishBelow fire changeOf happened fieldStatusOf stateStatusOf enteredBelow openStatus opening report limitLog replenishLog belowLog
 ran-low = record { total = refl; ran = refl; capacity = refl; returned = refl }
+
+-- the bound is reached
+pub reached : Reached
+unfolding lib.Count.leadingZeros all below fifoInRange rrInRange sporadicInRange inRange allZero scheduled limitEffect returnEffect soundAt withThreads without occurs wordOf occupancy soundRow soundRows soundLists run firstRefusal status answer withSlots presentTest absentTest soundState nextDue limits replenish replenishBelow fire changeOf happened fieldStatusOf stateStatusOf enteredBelow openStatus opening report limitLog replenishLog belowLog
+reached = refl
+
+pub most-in : MostIn
+unfolding lib.Count.leadingZeros all below fifoInRange rrInRange sporadicInRange inRange allZero scheduled limitEffect returnEffect soundAt withThreads without occurs wordOf occupancy soundRow soundRows soundLists run firstRefusal status answer withSlots presentTest absentTest soundState nextDue limits replenish replenishBelow fire changeOf happened fieldStatusOf stateStatusOf enteredBelow openStatus opening report limitLog replenishLog belowLog
+most-in = refl

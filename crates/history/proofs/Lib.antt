@@ -5,4 +5,5 @@ pub mod SeenLaws
 pub mod PassedLaws
 pub mod EventLaws
 pub mod BudgetLaws
+pub mod BoundLaws
 pub mod AmountLaws

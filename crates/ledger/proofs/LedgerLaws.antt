@@ -152,7 +152,7 @@ module _ (start now lo : ℕ) (p : Parameters) (a : Account) (l : Ledger) (m : M
 
 -- ---- the first entry comes back
 
-pop : (n : ℕ) (xs : List ℕ) → suc n ≤ length xs → take (suc n) xs ≡ getD xs 0 0 ∷ take n (withoutFirst xs)
+pub pop : (n : ℕ) (xs : List ℕ) → suc n ≤ length xs → take (suc n) xs ≡ getD xs 0 0 ∷ take n (withoutFirst xs)
 pop n [] l = absurd (omega arith)
 pop n (x ∷ xs) l = ap (λ (ys : List ℕ). x ∷ ys) (sym (take-append-le n xs (0 ∷ []) (omega arith)))
 
@@ -164,7 +164,7 @@ module _ (start now lo : ℕ) (up : Bool) (p : Parameters) (a : Account) (h : Ac
   amount = getD (a .pending .amounts) 0 0
 
   -- its due time is not after now
-  first-time : getD (a .pending .dues) 0 0 ≤ now
+  pub first-time : getD (a .pending .dues) 0 0 ≤ now
   first-time = leb-true (getD (a .pending .dues) 0 0) now (second (ltb 0 (a .pending .count)) e)
     where
       second : (b : Bool) → (b && leb (getD (a .pending .dues) 0 0) now) ≡ true → leb (getD (a .pending .dues) 0 0) now ≡ true

@@ -5,3 +5,4 @@ pub mod CompleteLaws
 pub mod StepRules
 pub mod LedgerLaws
 pub mod AgreeLaws
+pub mod BoundLaws
