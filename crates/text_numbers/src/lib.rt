@@ -1,11 +1,8 @@
 // Decimal numbers in a line: without leading zeros, one space between two of them and a newline after the last.
 ghost use mathlib.Core.Path.{_≡_};
-ghost use Prim.Native.Nat.{_+_, _≤_, _<_};
+ghost use Prim.Native.Nat.{_≤_, _<_};
 ghost use lib.ListN.{length, drop};
-ghost use Rattle.text.specs.Placed.{Put};
-ghost use Rattle.text_numbers.specs.Numbers.{digit, decimalAt, endByte, noNumbers, numbersFound, numbersText};
-use text::put_byte;
-use text::put_number;
+ghost use Rattle.text_numbers.specs.Numbers.{digit, decimalAt, endByte, noNumbers, numbersFound};
 
 // A number that was found, with the place after the byte that ends it; or none.
 pub enum Number {
@@ -118,20 +115,4 @@ pub fn numbers_at(text: &[u8], place: usize, most: &[u64]) -> Numbers
         right: true,
         values,
     }
-}
-
-// Puts the text of at most eight numbers at a place of a buffer, keeps every other byte, and answers the place after it.
-pub fn put_numbers(out: &mut [u8], at: usize, numbers: &[u64]) -> usize
-    requires { ⌜ (length (now numbers) ≤ 8) × (at + length (numbersText (now numbers)) ≤ length (now out)) ⌝ }
-    ensures { λ r. ⌜ Put (now (out .entry)) at (numbersText (now (numbers .entry))) (now (out .exit)) r ⌝ }
-{
-    let mut here = at;
-    let mut i = 0;
-    while i < numbers.len() {
-        let end = end_byte(i + 1 == numbers.len());
-        let digits = put_number(out, here, numbers[i]);
-        here = put_byte(out, digits, end);
-        i += 1;
-    }
-    here
 }
