@@ -1,7 +1,7 @@
 -- `state::sound_parts` meets its contract: a part that fails makes the list of tests false, and where the others hold the
 -- run times decide.
 use Prim.Native.Nat.{ℕ, _+_, _-_, _≤_, _<_}
-use mathlib.Core.Bool.{Bool, true, false}
+use mathlib.Core.Bool.{Bool, true, false, not}
 use mathlib.Core.Path.{_≡_, refl, sym, ap, fun-ext, _∙_}
 use mathlib.Core.List.{List}
 use native.Mathlib.Omega.{arith}
@@ -16,7 +16,7 @@ use Rattle.base.proofs.TestLaws.{tests, all-false, false-true, never-true, belo
 use Rattle.ready.specs.Sound.{soundLists}
 use Rattle.state.specs.declared.State.{State}
 use Rattle.state.specs.State.{threadAt, pendingAt, place}
-use Rattle.state.specs.Sound.{threadTest, absentTest, totals, soundTests, soundState}
+use Rattle.state.specs.Sound.{threadTest, presentTest, absentTest, totals, soundTests, soundState}
 use Rattle.state.specs.Updates.{stateOf}
 use Rattle.state.proofs.TestLaws.{decided-true, decided-false, _and_, by-last, below-next, below-false, eqb-same}
 use Rattle.state.proofs.ThreadLaws.{Filled, fill-next, fill-end, totals-next}
@@ -143,6 +143,15 @@ record Bounds (s : State) : Type 0 where
 bounds : (b : tie.At-loop Inv-loop μ-loop Inv-loop2 μ-loop2) → Bounds (scanning b)
 bounds b = record { few = omega arith; dues = omega arith; amounts = omega arith }
 
+-- what was answered for thread i, below N
+module _ (s : State) (few : s .header .n ≤ 32) (i : ℕ) (g : i < s .header .n) {r : Bool}
+    (e : r ≡ presentTest (s .header .start) (s .now) (threadAt s i) (pendingAt s i)) where
+  thread-true : not r ≡ false → threadTest s i ≡ true
+  thread-true f = at-present s few i g ∙ decided-true r e f
+
+  thread-false : not r ≡ true → threadTest s i ≡ false
+  thread-false f = at-present s few i g ∙ decided-false r e f
+
 -- a test that every sound state passes
 unsound : (s : State) {t : Bool} → t ≡ false → (soundState s ≡ true → t ≡ true) → false ≡ soundState s
 unsound s e f = sym (never-true _ (λ y. false-true (sym e ∙ f y)))
@@ -250,7 +259,7 @@ returns-7 c =
     sym
     (all-false (soundTests s) 8
     (below-false 32 (threadTest s) (b .loop2 .i) (omega arith)
-    (at-present s (b .loop2 .inv .few) (b .loop2 .i) (omega arith) ∙ decided-false _ (c .before .thread-holds .ensures) (c .if7 .taken))))
+    (thread-false s (b .loop2 .inv .few) (b .loop2 .i) (omega arith) (c .before .thread-holds .ensures) (c .if7 .taken))))
 
 returns-8 : tie.Need-returns-8 Inv-loop μ-loop Inv-loop2 μ-loop2
 unfolding soundState
@@ -282,7 +291,7 @@ loop2-again c =
     let b = h .before .before .before .before .before .before in
     let s = passing b in
     next (b .loop2 .inv) _ (omega arith)
-    (at-present s (b .loop2 .inv .few) (b .loop2 .i) (omega arith) ∙ decided-true _ (h .before .thread-holds .ensures) (h .if7 .left))
+    (thread-true s (b .loop2 .inv .few) (b .loop2 .i) (omega arith) (h .before .thread-holds .ensures) (h .if7 .left))
     (e .if8 .left) (p .assigned-place .ensures)
 
 sound-requires : tie.Need-sound-requires Inv-loop μ-loop Inv-loop2 μ-loop2
