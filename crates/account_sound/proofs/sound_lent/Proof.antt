@@ -58,6 +58,12 @@ pair-false true true false w x e = refl
 pair-false true false v w x e = refl
 pair-false false u v w x e = refl
 
+entries-fail : (start now : ℕ) (blocked : Bool) (p : Parameters) (a : Account)
+    → all (all (amountTests (p .budget) (a .server .capacity + a .server .used) (pendingAmounts (a .pending)))
+    ∷ all (dueTests now (dueEnd now (runsUpper blocked p a) p (a .server)) (pendingDues (a .pending))) ∷ []) ≡ false
+    → all (soundTests start now blocked p a) ≡ false
+entries-fail start now blocked p a e = pair-false _ _ _ _ _ e
+
 -- where three tests hold, the last two decide
 last-two : (t u v w x : Bool) → t ≡ true → u ≡ true → v ≡ true → all (w ∷ x ∷ []) ≡ all (t ∷ u ∷ v ∷ w ∷ x ∷ [])
 unfolding all
@@ -143,7 +149,7 @@ returns-2 c =
     let st = u .before .before .before in
     let a = st .args in
     sym
-    (pair-false _ _ _ _ _
+    (entries-fail (a .start) (a .time) (a .blocked) (a .p) (given st)
     (sym (entries (a .start) (a .time) (a .blocked) (a .p) (given st) _ (u .runs-upper .ensures) _ (w .wide .ensures) _ _ (t .either .ensures) (c .before .entries-hold .ensures)) ∙ not-true _ (c .if2 .taken)))
 
 mul-clear : tie.Need-mul-clear

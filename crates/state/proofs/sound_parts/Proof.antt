@@ -5,7 +5,7 @@ use mathlib.Core.Bool.{Bool, true, false, not}
 use mathlib.Core.Path.{_≡_, refl, sym, ap, fun-ext, _∙_}
 use mathlib.Core.List.{List}
 use native.Mathlib.Omega.{arith}
-use lib.ListN.{length, drop, getD, set, length-set, getD-replicate}
+use lib.ListN.{length, drop, getD, set, length-set, replicate, getD-replicate}
 use lib.Seq.{getD-set-other}
 use lib.Dec.{ltb, eqb}
 use borrow.Author.Needs.{needs}
@@ -14,6 +14,7 @@ use Rattle.records.specs.Ranges.{mostThreads, lastTime}
 use Rattle.base.specs.Tests.{all, below}
 use Rattle.base.proofs.TestLaws.{tests, all-false, false-true, never-true, below-at, at-below}
 use Rattle.ready.specs.Sound.{soundLists}
+use Rattle.thread.specs.declared.Thread.{Thread}
 use Rattle.state.specs.declared.State.{State}
 use Rattle.state.specs.State.{threadAt, pendingAt, place}
 use Rattle.state.specs.Sound.{threadTest, presentTest, absentTest, totals, soundTests, soundState}
@@ -152,6 +153,10 @@ module _ (s : State) (few : s .header .n ≤ 32) (i : ℕ) (g : i < s .header .n
   thread-false : not r ≡ true → threadTest s i ≡ false
   thread-false f = at-present s few i g ∙ decided-false r e f
 
+-- no place is filled in at the start
+unfilled-first : (ts : List Thread) (counts places : List ℕ) → Filled ts counts places 0
+unfilled-first ts counts places j l = absurd (omega arith)
+
 -- a test that every sound state passes
 unsound : (s : State) {t : Bool} → t ≡ false → (soundState s ≡ true → t ≡ true) → false ≡ soundState s
 unsound s e f = sym (never-true _ (λ y. false-true (sym e ∙ f y)))
@@ -237,7 +242,7 @@ loop2-holds c =
       many = b .loop .inv .many;
       held = refl;
       array = omega arith;
-      filled = λ j l. absurd (omega arith);
+      filled = unfilled-first (scanning b .threads) (scanning b .counts) (replicate 32 0);
       unfilled = λ j lo up. getD-replicate 32 j 0 0 up;
       rest = omega arith;
     }

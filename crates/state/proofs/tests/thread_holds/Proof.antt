@@ -54,6 +54,15 @@ module _ (start now : ℕ) (t : Thread) (q : Pending) where
       let g : all rest ≡ all (all (zeros (q .dues)) ∷ all (zeros (q .amounts)) ∷ []) = simp (eq-eqb (q .count) 0 f) in
       sym (all-append (serverTests (t .server)) rest ∙ cond-true _ _ _ e ∙ g)
 
+-- the account was judged on the slots that were lent
+judged : (start now : ℕ) (t : Thread) (counts dues amounts : List ℕ) (i : ℕ) {r : Bool}
+    → r ≡ soundAt start now (isBlocked t) (t .parameters)
+    (accountOf (t .server) (getD counts i 0) (take (i * 8 + 8 - i * 8) (drop (i * 8) dues)) (take (i * 8 + 8 - i * 8) (drop (i * 8) amounts)))
+    → r ≡ soundAt start now (isBlocked t) (t .parameters) (record { server = t .server; pending = pendingOf counts dues amounts i })
+judged start now t counts dues amounts i e =
+    e
+    ∙ ap₂ (λ (ds xs : List ℕ). soundAt start now (isBlocked t) (t .parameters) (accountOf (t .server) (getD counts i 0) ds xs)) (lent i dues) (lent i amounts)
+
 present-fields-requires : tie.Need-present-fields-requires
 present-fields-requires c κs = search needs
 
@@ -106,9 +115,7 @@ returns-2 c =
     let a = i .before .before .before .before .args in
     let q = pendingOf (a .counts .now) (a .dues .now) (a .amounts .now) (a .i) in
     some (a .start) (a .time) (a .t) q _ (decided-true _ (i .before .present-fields .ensures) (i .if1 .left)) (l .if2 .taken)
-    (c .sound-lent .ensures
-    ∙ ap₂ (λ (ds xs : List ℕ). soundAt (a .start) (a .time) (isBlocked (a .t)) (a .t .parameters) (accountOf (a .t .server) (getD (a .counts .now) (a .i) 0) ds xs))
-    (lent (a .i) (a .dues .now)) (lent (a .i) (a .amounts .now)))
+    (judged (a .start) (a .time) (a .t) (a .counts .now) (a .dues .now) (a .amounts .now) (a .i) (c .sound-lent .ensures))
 
 no-server-requires : tie.Need-no-server-requires
 no-server-requires c κs = search needs
