@@ -1,27 +1,23 @@
 //! Replays the same events through the proved code and through the plain program beside this one
 //! (`plain`), both in place and both with the test of soundness that an event begins with, and
-//! prints nanoseconds and instructions for an event and for a moment. Then the same for a text that
-//! is made a trace file, by the code, by plain Rust and by the model.
+//! prints nanoseconds and instructions for an event and for a moment. Then the same for the worst
+//! that is known (`rows`), and for a text that is made a trace file, by the code, by plain Rust and
+//! by the model.
 //!
 //! `bench`: times. `bench --once`: each measurement once, for callgrind, which counts inside
 //! `bench_measured`. `bench --instructions FILE`: times, and the counts of that run, one to a line.
 
 mod given;
+mod rows;
+mod script;
 mod text;
 
 use differential as board;
 use plain::random::Random;
-use plain::{Event, Parameters, State, BLOCK, CLOCK, RR, SET, SPORADIC, THREADS, WAKE, YIELD};
+use plain::{Event, Parameters, State, BLOCK, CLOCK, THREADS, WAKE, YIELD};
+use script::{accept, event, mixed, moments_until, opened, Setting};
 use std::hint::black_box;
 use std::time::Instant;
-
-/// One row of the table.
-#[derive(Clone, Copy)]
-struct Setting {
-    n: u32,
-    many: bool,
-    small: bool,
-}
 
 /// What is measured of a row.
 #[derive(Clone, Copy, PartialEq)]
@@ -34,6 +30,10 @@ enum What {
     Readings,
     /// the test of soundness alone
     Soundness,
+    /// a whole trace file, opened and stepped; no column of its own
+    Replay,
+    /// the listing of one; no column of its own
+    Listing,
     /// a text made a trace file; no column of its own
     Text,
 }
@@ -58,66 +58,8 @@ const COUNTED: Size = Size {
     runs: 1,
 };
 
-const PERIOD: u64 = 400;
-const BUDGET: u64 = 8;
+/// The ticks between the readings of a measurement of moments.
 const STEP: u64 = 20_000;
-
-/// Eight sporadic threads (one where N is 2) above RR threads that share a priority. With many
-/// pending, the budgets are split into entries of one tick, eight to a thread.
-fn opened(x: Setting) -> State {
-    let sporadic = if x.n == 2 { 1 } else { 8 };
-    let mut table = [Parameters::default(); THREADS];
-    for (i, p) in table[..x.n as usize].iter_mut().enumerate() {
-        p.flag = 1;
-        if i < sporadic {
-            p.policy = SPORADIC;
-            p.priority = 20 + i as u8;
-            p.low = 5;
-            p.max_repl = if x.many { 8 } else { 1 };
-            p.budget = BUDGET;
-            p.period = PERIOD;
-        } else {
-            p.policy = RR;
-            p.priority = 10;
-            p.budget = if x.small { 4 } else { 1_000_000 };
-        }
-    }
-    let (answer, mut s) = plain::open(0, x.n, &table);
-    assert_eq!(answer.status, 0);
-    if x.many {
-        while s.threads[..sporadic]
-            .iter()
-            .any(|t| t.used + t.capacity > 0)
-        {
-            let running = plain::running(&s);
-            let now = s.now;
-            accept(&mut s, event(now + 1, CLOCK, 0));
-            if (running as usize) < sporadic && s.threads[running as usize].used > 0 {
-                accept(&mut s, event(now + 1, BLOCK, 0));
-                accept(&mut s, event(now + 1, WAKE, running));
-            }
-        }
-    }
-    // the same phase of the period for all rows
-    let to = s.now.next_multiple_of(PERIOD) + 3 * PERIOD;
-    accept(&mut s, event(to, CLOCK, 0));
-    s
-}
-
-fn event(time: u64, kind: u8, thread: u8) -> Event {
-    Event {
-        time,
-        kind,
-        thread,
-        ..Event::default()
-    }
-}
-
-fn accept(s: &mut State, e: Event) -> Event {
-    let a = plain::event(s, &e);
-    assert_eq!(a.status, 0, "{e:?}");
-    e
-}
 
 /// The events of a measurement, each accepted, and the number of moments that fall into them.
 fn script(s: &State, what: What, size: &Size) -> (Vec<Event>, u64) {
@@ -141,40 +83,6 @@ fn script(s: &State, what: What, size: &Size) -> (Vec<Event>, u64) {
         })
         .collect();
     (events, moments)
-}
-
-/// An event of any kind that the state accepts.
-fn mixed(s: &State, r: &mut Random) -> Event {
-    let time = s.now + r.between(1, 3);
-    let blocked = s.threads[..s.n as usize].iter().position(|t| t.blocked);
-    match (r.below(5), blocked) {
-        (0, _) => event(time, CLOCK, 0),
-        (1, _) => event(time, YIELD, 0),
-        (2 | 3, Some(i)) => event(time, WAKE, i as u8),
-        (2 | 3, None) => event(time, BLOCK, 0),
-        _ => {
-            // an RR thread keeps its parameters; it goes to the tail with a full quantum
-            let i = s.n as u8 - 1;
-            Event {
-                parameters: s.threads[i as usize].parameters,
-                ..event(time, SET, i)
-            }
-        }
-    }
-}
-
-/// The number of instants up to a time at which something happens.
-fn moments_until(s: &State, time: u64) -> u64 {
-    let mut s = *s;
-    let mut count = 0;
-    loop {
-        let next = plain::next_moment(&s);
-        if next == 0 || next > time {
-            return count;
-        }
-        count += 1;
-        accept(&mut s, event(next, CLOCK, 0));
-    }
 }
 
 /// A text of 32 threads and as many events of all kinds as a file holds.
@@ -212,6 +120,7 @@ struct Case {
     events: Vec<Event>,
     records: Vec<board::Event>,
     moments: u64,
+    /// the text, or the file that is replayed
     text: Vec<u8>,
 }
 
@@ -226,7 +135,7 @@ enum Side {
 
 const SIDES: [Side; 3] = [Side::Code, Side::Plain, Side::Model];
 
-/// What a measurement changes: the state of each side, and the file that a text is made.
+/// What a measurement changes: the state of each side, and the file or the listing that is written.
 struct Lent {
     s: State,
     t: board::State,
@@ -252,10 +161,9 @@ impl Case {
         Lent {
             s: self.state,
             t: self.given,
-            out: if self.what == What::Text {
-                vec![0; room]
-            } else {
-                Vec::new()
+            out: match self.what {
+                What::Text | What::Listing => vec![0; room],
+                _ => Vec::new(),
             },
         }
     }
@@ -289,6 +197,13 @@ extern "C" fn bench_measured(case: &Case, side: Side, lent: &mut Lent) {
         (What::Text, false) => {
             black_box(text::from_text(&case.text, out));
         }
+        (What::Replay, true) => *t = board::replay(&case.text, plain::MAX_EVENTS).state,
+        (What::Replay, false) => *s = rows::replayed(&case.text),
+        (What::Listing, true) => {
+            let listed = board::listing(&case.text, out);
+            out.truncate(listed.length);
+        }
+        (What::Listing, false) => *out = plain::listing(&case.text),
         (What::Soundness, true) => {
             for _ in &case.records {
                 black_box(board::sound(black_box(t)));
@@ -332,7 +247,7 @@ fn agree(case: &Case) {
         given::state(&lent.s) == lent.t,
         "the two ended in different states"
     );
-    assert!(file == lent.out, "the two made different files");
+    assert!(file == lent.out, "the two wrote different bytes");
     assert!(
         case.what != What::Text || plain::read(&file).is_ok(),
         "the text is refused"
@@ -372,7 +287,7 @@ fn settings() -> Vec<Setting> {
 }
 
 fn cases(x: Setting, size: &Size) -> Vec<Case> {
-    let s = opened(x);
+    let (s, _) = opened(x);
     WHATS.map(|what| Case::new(&s, what, size)).into()
 }
 
@@ -388,6 +303,7 @@ fn main() {
                     replay(case, Side::Plain);
                 }
             }
+            rows::worst(&COUNTED).iter().for_each(rows::Row::once);
             for side in SIDES {
                 replay(&Case::text(), side);
             }
@@ -404,8 +320,10 @@ fn main() {
     };
     // Rounds outermost, so that a busy spell of the machine falls on all measurements alike.
     let rows: Vec<Vec<Case>> = settings().into_iter().map(|x| cases(x, &TIMED)).collect();
+    let mut worst = rows::worst(&TIMED);
     let text = Case::text();
     rows.iter().flatten().for_each(agree);
+    worst.iter().for_each(rows::Row::agree);
     agree(&text);
     let mut text_times = [Vec::new(), Vec::new(), Vec::new()];
     let mut times: Vec<[[Vec<f64>; 4]; 2]> = rows.iter().map(|_| Default::default()).collect();
@@ -417,6 +335,7 @@ fn main() {
                 }
             }
         }
+        worst.iter_mut().for_each(rows::Row::round);
         for (side, times) in text_times.iter_mut().enumerate() {
             times.push(replay(&text, SIDES[side]));
         }
@@ -459,14 +378,21 @@ fn main() {
             tables[1].push((name, mix, side(0), side(1)));
         }
     }
+    let of_worst = [
+        worst.iter().map(rows::Row::timed).collect(),
+        counts.as_ref().map_or(Vec::new(), |counts| {
+            rows::counted(&counts[settings().len() * WHATS.len() * 2..])
+        }),
+    ];
     let best = |times: &Vec<f64>| times.iter().copied().fold(f64::INFINITY, f64::min);
     let of_text = [
         Some(text_times.each_ref().map(best)),
         counts.map(|counts| [3, 2, 1].map(|k| counts[counts.len() - k])),
     ];
     let units = ["nanoseconds", "instructions"];
-    for (unit, (table, of_text)) in units.iter().zip(tables.iter().zip(of_text)) {
-        let Some([a, b, c]) = of_text else {
+    for (k, unit) in units.iter().enumerate() {
+        let table = &tables[k];
+        let Some([a, b, c]) = of_text[k] else {
             continue;
         };
         println!("{unit}, code / plain Rust = ratio");
@@ -489,6 +415,9 @@ fn main() {
                 );
                 print!("{}", if k == 3 { "\n" } else { " |" });
             }
+        }
+        for line in &of_worst[k] {
+            println!("{line}");
         }
         println!(
             "a text of 1,500 events made a file: {a:.0} / {b:.0} = {:.2}; by the model {c:.0}, {:.2}",
