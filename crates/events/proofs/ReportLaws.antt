@@ -1,7 +1,7 @@
 -- What events tell adds up over whole sequences, and no number of it is large.
-use Prim.Native.Nat.{ℕ, zero, suc, _≤_}
+use Prim.Native.Nat.{ℕ, zero, suc, _≤_, _<_}
 use mathlib.Core.Bool.{Bool, true, false}
-use mathlib.Core.Path.{_≡_, refl, ap, _∙_, subst⁻¹}
+use mathlib.Core.Path.{_≡_, refl, sym, ap, _∙_, subst⁻¹}
 use mathlib.Core.List.{[]}
 use lib.ListN.{List·getD-eq-default}
 use lib.Dec.{ltb}
@@ -11,7 +11,7 @@ use borrow.Author.Tests.{ltb-true}
 use Rattle.base.proofs.TestLaws.{tests}
 use Rattle.records.specs.declared.Parameters.{Parameters}
 use Rattle.records.specs.declared.Event.{Event}
-use Rattle.records.proofs.PolicyLaws.{policy-elim}
+use Rattle.records.proofs.PolicyLaws.{policy-elim, policy-low, by-two}
 use Rattle.sporadic.specs.declared.Server.{Server}
 use Rattle.sporadic.specs.declared.Effect.{Effect}
 use Rattle.sporadic.specs.Rules.{blockEffect}
@@ -21,9 +21,9 @@ use Rattle.passing.proofs.TimeLaws.{sound-advance}
 use Rattle.passing.proofs.SequenceLaws.{acceptable}
 use Rattle.passing.proofs.ReportLaws.{reports-add-up, report-accepted, report-refused}
 use Rattle.reports.specs.Steps.{Log}
-use Rattle.reports.specs.Tallies.{Tally, returned, tallied, numbers}
-use Rattle.reports.proofs.TallyLaws.{AtMost, plus-most, most-more, none-most}
-use Rattle.reports.proofs.NumberLaws.{no-numbers, numbers-most}
+use Rattle.reports.specs.Tallies.{Tally, returned, ofThread, noTallies, both, tallied, numbers, moreOf}
+use Rattle.reports.proofs.TallyLaws.{AtMost, plus-most, most-more, none-most, both-none}
+use Rattle.reports.proofs.NumberLaws.{no-numbers, numbers-most, more-of}
 use Rattle.thread.specs.declared.Thread.{Thread}
 use Rattle.thread.specs.Thread.{noThread}
 use Rattle.state.specs.declared.State.{State}
@@ -37,7 +37,7 @@ use Rattle.moments.proofs.ReportLaws.{tally-laws}
 use Rattle.moments.proofs.ReportBounds.{returned-most, one-told, reported-most}
 use Rattle.events.specs.Events.{concerned}
 use Rattle.events.specs.Answers.{executive}
-use Rattle.events.specs.Reports.{ownLogOf, ownTallies, eventTallies, TalliesAddUp, RefusedTellsZeros, NumbersFit}
+use Rattle.events.specs.Reports.{ownLogOf, ownTallies, eventTallies, TalliesAddUp, RefusedTellsZeros, NumbersFit, eventNumbers}
 use Rattle.events.proofs.DemandLaws.{lawful}
 
 -- 02 E3 4
@@ -107,3 +107,38 @@ numbers-fit = (
   λ s e k. numbers-most 32 2000257000000000 (eventTallies s e)
       (λ j l. most-more 2000257 2000257000000000 2000257000000000 2000257000000000 (eventTallies s e j) (omega arith) (omega arith) (event-most s e j)) k,
 )
+
+-- ---- what an accepted event tells, for code that adds it up: the numbers of the moments, and what a block brings back at once
+
+own-none : (kind i : ℕ) (t : Thread) (s : State) → (kind ≡ 1 → t .parameters .policy < 2) → tallied (ownLogOf kind i t s) ≡ noTallies
+own-none zero i t s f = refl
+own-none (suc zero) i t s f = ap tallied (policy-low {A = Log} (t .parameters .policy) [] _ (f refl))
+own-none (suc (suc zero)) i t s f = refl
+own-none (suc (suc (suc zero))) i t s f = refl
+own-none (suc (suc (suc (suc k)))) i t s f = refl
+
+module _ (s : State) (e : Event) (z : status executive s e ≡ 0) where
+  abbrev u : State
+  u = passed s (e .time)
+
+  parts : eventNumbers s e ≡ numbers (both (reported s (e .time)) (ownTallies u e))
+  parts = ap numbers (report-accepted executive tallies ownTallies s e z)
+
+  pub quiet-told : (e .kind ≡ 1 → threadAt u (concerned u e) .parameters .policy < 2) → eventNumbers s e ≡ numbers (reported s (e .time))
+  quiet-told f =
+      parts
+      ∙ ap (λ (g : ℕ → Tally). numbers (both (reported s (e .time)) g)) (own-none (e .kind) (concerned u e) (threadAt u (concerned u e)) u f)
+      ∙ ap numbers (both-none (reported s (e .time)))
+
+  abbrev blocked : Effect
+  blocked = blockEffect (u .now) false (threadAt u (concerned u e) .parameters) (threadAt u (concerned u e) .server)
+
+  pub block-told : e .kind ≡ 1 → threadAt u (concerned u e) .parameters .policy ≡ 2 → concerned u e < 32
+      → eventNumbers s e ≡ moreOf (concerned u e) (returned blocked) (numbers (reported s (e .time)))
+  block-told k c l =
+      parts
+      ∙ ap (λ (g : ℕ → Tally). numbers (both (reported s (e .time)) g))
+      (ap (λ (x : ℕ). tallied (ownLogOf x (concerned u e) (threadAt u (concerned u e)) u)) k
+      ∙ ap tallied (by-two {A = Log} (threadAt u (concerned u e) .parameters .policy) [] [] _ c)
+      ∙ both-none (ofThread (concerned u e) (returned blocked)))
+      ∙ sym (more-of (concerned u e) (returned blocked) (reported s (e .time)) l)

@@ -58,7 +58,7 @@ both-told j m i e l = go (eqb j i)
     go false = record { limits = omega arith; quanta = omega arith; replenishments = omega arith; amounts = omega arith }
 
 -- U at most comes back at a limit
-limit-back : (now : ℕ) (p : Parameters) (s : Server) (b : Bool) → limitEffect now b p s .back ≤ s .used
+pub limit-back : (now : ℕ) (p : Parameters) (s : Server) (b : Bool) → limitEffect now b p s .back ≤ s .used
 limit-back now p s b =
     limit-elim now p s b (λ (e : Effect). e .back ≤ s .used) (omega arith)
     (at-limit-elim now p s (λ (e : Effect). e .back ≤ s .used) (λ u. omega arith) (λ u d. omega arith) (λ u d. omega arith))
@@ -83,7 +83,7 @@ first-least zero xs l = absurd (omega arith)
 first-least (suc n) [] l = omega arith
 first-least (suc n) (x ∷ xs) l = omega arith
 
-first-amount : (lo : ℕ → ℕ) (s : State) → SoundFrom lo s → (j : ℕ) → j < 32 → 0 < getD (s .counts) j 0 → getD (slotsAt j (s .amounts)) 0 0 ≤ 1000000000
+pub first-amount : (lo : ℕ → ℕ) (s : State) → SoundFrom lo s → (j : ℕ) → j < 32 → 0 < getD (s .counts) j 0 → getD (slotsAt j (s .amounts)) 0 0 ≤ 1000000000
 first-amount lo s h j l c = go (h .each j l)
   where
     go : ThreadSound (s .header .start) (s .now) (lo j) (ltb j (s .header .n)) (threadAt s j) (pendingAt s j) → getD (slotsAt j (s .amounts)) 0 0 ≤ 1000000000
@@ -92,7 +92,7 @@ first-amount lo s h j l c = go (h .each j l)
     go (rr n z g a v q) = absurd (omega (arith, ap (λ (q : Pending). q .count) q))
     go (sporadic n z g a v) = omega (tests, g, v .sums .0, first-least (getD (s .counts) j 0) (slotsAt j (s .amounts)) c)
 
-return-back : (now : ℕ) (p : Parameters) (s : Server) (b : Bool) (count amount m : ℕ) → amount ≤ m → returnEffect now b p count amount s .back ≤ m
+pub return-back : (now : ℕ) (p : Parameters) (s : Server) (b : Bool) (count amount m : ℕ) → amount ≤ m → returnEffect now b p count amount s .back ≤ m
 return-back now p s b count amount m l =
     return-elim now p s b count amount (λ (e : Effect). e .back ≤ m) (λ z. omega arith) (λ c u. l) (λ c f u. l)
 

@@ -3,16 +3,16 @@ use Prim.Native.Nat.{ℕ, _+_, _-_, _≤_, _<_}
 use mathlib.Core.Bool.{false}
 use mathlib.Core.Path.{_≡_, sym, ap, _∙_, subst, subst⁻¹}
 use mathlib.Core.List.{List, []}
-use lib.ListN.{getD, replicate}
+use lib.ListN.{length, getD, replicate}
 use native.Mathlib.Omega.{arith}
 use Rattle.sporadic.specs.declared.Effect.{Effect}
 use Rattle.sporadic.specs.Rules.{limitEffect}
 use Rattle.account.specs.Rules.{returnFirst}
 use Rattle.passing.specs.Time.{dueBy}
 use Rattle.reports.specs.Steps.{Log}
-use Rattle.reports.specs.Tallies.{Tally, tally, plus, returned, ofThread, noTallies, both, tallied, numbers, moreOf}
+use Rattle.reports.specs.Tallies.{Tally, tally, plus, returned, ofThread, noTallies, both, tallied, numbers, moreOf, Tellable}
 use Rattle.reports.proofs.TallyLaws.{none-both, both-none, both-both, of-thread-plus, AtMost, left-most, most-more}
-use Rattle.reports.proofs.NumberLaws.{no-numbers, numbers-most, more-of}
+use Rattle.reports.proofs.NumberLaws.{numbers-length, no-numbers, numbers-most, more-of}
 use Rattle.thread.specs.Thread.{isBlocked}
 use Rattle.state.specs.declared.State.{State}
 use Rattle.state.specs.State.{threadAt, accountAt}
@@ -107,3 +107,10 @@ module _ (s₀ : State) (t : ℕ) (sound : Sound s₀) (by : s₀ .now ≤ t) (n
       (λ i l. left-most 2000256000000000 2000256000000000 (h .sofar i) (rest s t i)
       (subst⁻¹ (λ (f : ℕ → Tally). AtMost 2000256000000000 2000256000000000 (f i)) (h .whole)
       (most-more 2000256 2000256000000000 2000256000000000 2000256000000000 (reported s₀ t i) (omega arith) (omega arith) (reported-most s₀ t i sound by near top)))) k)
+
+  -- so there is room for what a turn or a block tells
+  pub told-tellable : (s : State) (told : List ℕ) → Telling s₀ t s told → (n : ℕ) → n ≤ 1000000000000000000 → Tellable n told
+  told-tellable s told h n l = (ap (λ (xs : List ℕ). length xs) (h .numbered) ∙ numbers-length 32 (h .sofar), λ k. omega (arith, told-fits s told h k))
+
+  pub reported-tellable : (n : ℕ) → n ≤ 1000000000000000000 → Tellable n (numbers (reported s₀ t))
+  reported-tellable n l = (numbers-length 32 (reported s₀ t), λ k. omega (arith, reported-fits k))

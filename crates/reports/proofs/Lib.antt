@@ -3,3 +3,4 @@ pub mod Computed
 -- Laws of what is told.
 pub mod TallyLaws
 pub mod NumberLaws
+pub mod TellLaws

@@ -1,8 +1,9 @@
 -- What is told of the steps (02 E3 2): four numbers for each thread, 128 in all.
-use Prim.Native.Nat.{ℕ, zero, suc, _+_, _*_}
+use Prim.Native.Nat.{ℕ, zero, suc, _+_, _*_, _<_, _^_}
 use mathlib.Core.Bool.{cond}
+use mathlib.Core.Path.{_≡_}
 use mathlib.Core.List.{List, [], _∷_, _++_}
-use lib.ListN.{getD, set}
+use lib.ListN.{length, getD, set}
 use lib.Dec.{eqb}
 use Rattle.records.specs.Ranges.{mostThreads}
 use Rattle.sporadic.specs.declared.Effect.{Effect}
@@ -26,8 +27,11 @@ abbrev pub plus : Tally → Tally → Tally
 plus a b = tally (a .limits + b .limits) (a .quanta + b .quanta) (a .replenishments + b .replenishments) (a .amounts + b .amounts)
 
 -- 02 E3 2: an Effect carries out a replenishment where an amount came back: the first entry's, or U at once
+abbrev pub backTally : ℕ → Tally
+backTally back = tally 0 0 (cond (eqb back 0) 0 1) back
+
 abbrev pub returned : Effect → Tally
-returned e = tally 0 0 (cond (eqb (e .back) 0) 0 1) (e .back)
+returned e = backTally (e .back)
 
 -- ticks alone are not told
 abbrev pub tallyOf : Step → Tally
@@ -77,3 +81,7 @@ more k n xs = set xs k (getD xs k 0 + n)
 abbrev pub moreOf : ℕ → Tally → List ℕ → List ℕ
 moreOf i x xs =
     more (i * perThread + 3) (x .amounts) (more (i * perThread + 2) (x .replenishments) (more (i * perThread + 1) (x .quanta) (more (i * perThread) (x .limits) xs)))
+
+-- what telling so much more needs: the numbers of all threads, each with room for it
+abbrev pub Tellable : ℕ → List ℕ → Type 0
+Tellable n xs = (length xs ≡ mostThreads * perThread) × ((k : ℕ) → getD xs k 0 + n < 2 ^ 64)
