@@ -14,7 +14,7 @@ enum { EVENT, OPEN, SOUND, NEXT_DUE, READ, COPY, LISTING, CHECK, REPLAY, TO_TEXT
 static const char *const names[] = { "thawonlai_event", "thawonlai_open", "thawonlai_sound", "thawonlai_next_due", "thawonlai_read",
                                      "thawonlai_copy", "thawonlai_listing", "thawonlai_check", "thawonlai_replay", "thawonlai_to_text" };
 /* by value, and too large for registers; a struct of up to 16 bytes goes in registers */
-static const size_t arguments[] = { sizeof(struct event), sizeof(struct table), sizeof(struct core), 0, 0, 0, 0, 0, 0, 0 };
+static const size_t arguments[] = { sizeof(struct event), sizeof(struct table), 0, 0, 0, 0, 0, 0, 0, 0 };
 
 /* `at_F` notes where the stack stands as F is entered, and goes on to F. */
 char *entered;
@@ -48,7 +48,7 @@ static void *call(void *which) {
     switch ((int)(intptr_t)which) {
     case EVENT: at_thawonlai_event(&core, dues, amounts, event); break;
     case OPEN: opened = at_thawonlai_open((struct header){ .n = n, .start = start }, table, dues, amounts); break;
-    case SOUND: at_thawonlai_sound(core, dues, amounts); break;
+    case SOUND: at_thawonlai_sound(&core, dues, amounts); break;
     case NEXT_DUE: at_thawonlai_next_due(core.counts, dues, n); break;
     case READ: found = at_thawonlai_read(file, length); break;
     case COPY: at_thawonlai_copy(file, length, out, LONGEST); break;

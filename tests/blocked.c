@@ -53,7 +53,7 @@ int main(void) {
             struct core s = opened.core;
             s.threads[i].blocked = byte;
             struct core given = s;
-            int found = thawonlai_sound(s, dues, amounts);
+            int found = thawonlai_sound(&s, dues, amounts);
             struct event clock = { .time = s.now };
             struct reply r = thawonlai_event(&s, dues, amounts, clock);
             int replied = sound ? r.status == 0 && r.running == opened.running && r.next == opened.next

@@ -35,7 +35,7 @@ struct checked { uint8_t verdict, status; size_t line; };
 
 struct reply thawonlai_event(struct core *core, uint64_t *dues, uint64_t *amounts, struct event e);
 struct answer thawonlai_open(struct header header, struct table table, uint64_t *dues, uint64_t *amounts);
-uint8_t thawonlai_sound(struct core core, const uint64_t *dues, const uint64_t *amounts);
+uint8_t thawonlai_sound(const struct core *core, const uint64_t *dues, const uint64_t *amounts);
 struct next_due thawonlai_next_due(const uint8_t counts[THREADS], const uint64_t dues[SLOTS], uint32_t n);
 struct found thawonlai_read(const uint8_t *file, size_t length);
 struct written thawonlai_write(struct header header, struct table table, struct events events, size_t count, uint8_t *out, size_t room);

@@ -1,7 +1,7 @@
 // The executive for programs in other languages: a static library's exported functions.
 //
-// A struct is laid out as C lays it out, a `&mut Core` is a pointer to one, and an array that is lent is a pointer to its first
-// number. None has a `requires`: any values may be handed in, and bad ones get their status.
+// A struct is laid out as C lays it out, a lent `Core` is a pointer to one, and a lent array is a pointer to its first number. None has
+// a `requires`: any values may be handed in, and bad ones get their status.
 ghost use mathlib.Core.Path.{_≡_};
 ghost use mathlib.Core.Bool.{cond};
 ghost use Rattle.passing.specs.Sequence.{answer};
@@ -85,16 +85,23 @@ pub extern "C" fn thawonlai_open(
     executive::open(header, threads, dues, amounts)
 }
 
-// 1 where a state is sound, else 0.
-#[no_mangle]
-pub extern "C" fn thawonlai_sound<'a>(core: Core, dues: &'a Slots, amounts: &'a Slots) -> u8
-    ensures { λ r. ⌜ r ≡ cond (soundState (whole core (now (dues .entry)) (now (amounts .entry)))) 1 0 ⌝ }
+// 1 where a core by value is a sound state with its slots, else 0.
+fn sound_number<'a>(c: Core, dues: &'a Slots, amounts: &'a Slots) -> u8
+    ensures { λ r. ⌜ r ≡ cond (soundState (whole c (now (dues .entry)) (now (amounts .entry)))) 1 0 ⌝ }
 {
     // lent as slices, so that their lengths are known
     rows::slots(dues);
     rows::slots(amounts);
-    if state::sound(core, dues, amounts) {
+    if state::sound(c, dues, amounts) {
         return 1;
     }
     0
+}
+
+// 1 where a lent state is sound, else 0.
+#[no_mangle]
+pub extern "C" fn thawonlai_sound<'c, 'a>(core: &'c Core, dues: &'a Slots, amounts: &'a Slots) -> u8
+    ensures { λ r. ⌜ r ≡ cond (soundState (whole (now (core .entry)) (now (dues .entry)) (now (amounts .entry)))) 1 0 ⌝ }
+{
+    sound_number(*core, dues, amounts)
 }

@@ -211,7 +211,7 @@ mod exported {
             dues: *mut u64,
             amounts: *mut u64,
         ) -> Answered;
-        pub fn thawonlai_sound(core: Core, dues: *const u64, amounts: *const u64) -> u8;
+        pub fn thawonlai_sound(core: *const Core, dues: *const u64, amounts: *const u64) -> u8;
         pub fn thawonlai_next_due(counts: *const u8, dues: *const u64, n: u32) -> NextDue;
         pub fn thawonlai_read(file: *const u8, length: usize) -> Found;
         pub fn thawonlai_copy(file: *const u8, length: usize, out: *mut u8, room: usize)
@@ -273,7 +273,7 @@ pub fn open(start: u64, n: u32, table: Table) -> Answer {
 }
 
 pub fn sound(s: &State) -> u8 {
-    unsafe { exported::thawonlai_sound(s.core, s.dues.as_ptr(), s.amounts.as_ptr()) }
+    unsafe { exported::thawonlai_sound(&s.core, s.dues.as_ptr(), s.amounts.as_ptr()) }
 }
 
 /// A row of `PENDING` dues for each thread.
