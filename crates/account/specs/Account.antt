@@ -2,7 +2,7 @@
 use Prim.Native.Nat.{ℕ}
 use mathlib.Core.{Bool.Bool, Bool.cond, List.List}
 use lib.{ListN.take, ListN.getD, ListN.replicate, Dec.eqb}
-use Rattle.records.specs.declared.Parameters.{Parameters}
+use Rattle.records.specs.{declared.Parameters.Parameters, Ranges.byPolicy}
 pub use Rattle.entries.specs.Entries.{entries}
 use Rattle.sporadic.specs.Rules.{atUpper}
 use Rattle.account.specs.declared.{Pending.Pending, Account.Account}
@@ -22,10 +22,22 @@ isUpper p a = atUpper p (a .server .capacity) (a .pending .count)
 abbrev pub firstDue : Pending → ℕ
 firstDue q = cond (eqb (q .count) 0) 0 (getD (q .dues) 0 0)
 
--- 01 Events 6: a set gives the whole budget, nothing charged or pending, and activation now
-abbrev pub freshAccount : ℕ → Parameters → Account
-freshAccount now p =
+-- 01 State 17: nothing charged and nothing pending
+abbrev pub unusedAccount : ℕ → ℕ → Account
+unusedAccount capacity activation =
     record {
-      server = record { capacity = p .budget; used = 0; activation = now };
+      server = record { capacity = capacity; used = 0; activation = activation };
       pending = record { count = 0; dues = replicate entries 0; amounts = replicate entries 0 };
     }
+
+-- 01 Events 6: a set gives the whole budget, nothing charged or pending, and activation now
+abbrev pub freshAccount : ℕ → Parameters → Account
+freshAccount now p = unusedAccount (p .budget) now
+
+-- 01 State 17: no account
+abbrev pub noAccount : Account
+noAccount = unusedAccount 0 0
+
+-- 01 Events 6: the account that goes with new parameters
+abbrev pub newAccount : ℕ → Parameters → Account
+newAccount now p = byPolicy (p .policy) noAccount noAccount (freshAccount now p)

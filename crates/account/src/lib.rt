@@ -1,7 +1,7 @@
 // One sporadic account: a server and its pending entries. What a rule does to it is its Effect applied, by value. No thread, no list.
 ghost use mathlib.Core.Path.{_≡_};
 ghost use Rattle.entries.specs.Entries.{Room};
-ghost use Rattle.account.specs.Account.{freshAccount};
+ghost use Rattle.account.specs.Account.{unusedAccount, freshAccount, newAccount};
 ghost use Rattle.account.specs.Rules.{applied, outcome, Schedulable, blocking, waking};
 pub use entries::ENTRIES;
 pub use entries::count_after;
@@ -28,15 +28,15 @@ pub struct Outcome {
     pub place: Place,
 }
 
-// The account that opening and a set give.
-pub fn fresh(p: Parameters, now: u64) -> Account
-    ensures { λ r. ⌜ r ≡ freshAccount now p ⌝ }
+// An account with nothing charged and nothing pending.
+fn unused(capacity: u64, activation: u64) -> Account
+    ensures { λ r. ⌜ r ≡ unusedAccount capacity activation ⌝ }
 {
     Account {
         server: Server {
-            capacity: p.budget,
+            capacity: capacity,
             used: 0,
-            activation: now,
+            activation: activation,
         },
         pending: Pending {
             count: 0,
@@ -44,6 +44,23 @@ pub fn fresh(p: Parameters, now: u64) -> Account
             amounts: [0u64; ENTRIES],
         },
     }
+}
+
+// The account that opening and a set give a sporadic thread.
+pub fn fresh(p: Parameters, now: u64) -> Account
+    ensures { λ r. ⌜ r ≡ freshAccount now p ⌝ }
+{
+    unused(p.budget, now)
+}
+
+// The account that goes with new parameters.
+pub fn new_account(p: Parameters, now: u64) -> Account
+    ensures { λ r. ⌜ r ≡ newAccount now p ⌝ }
+{
+    if p.policy < 2 {
+        return unused(0, 0);
+    }
+    fresh(p, now)
 }
 
 // The account after an effect.

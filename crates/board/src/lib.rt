@@ -9,9 +9,9 @@ ghost use Rattle.state.specs.Sound.{soundState};
 ghost use Rattle.state.specs.Updates.{whole};
 ghost use Rattle.events.specs.Answers.{executive};
 ghost use Rattle.events.specs.Opening.{opening};
-ghost use Rattle.executive.specs.Answer.{answerOf};
+ghost use Rattle.answers.specs.Answer.{answerOf};
 ghost use Rattle.board.specs.Board.{replied, done};
-use executive::Answer;
+use answers::Answer;
 use records::Event;
 use records::Header;
 use records::Parameters;
@@ -82,7 +82,7 @@ pub extern "C" fn thawonlai_open(
     ensures { λ r. ⌜ answerOf r (now (dues .exit)) (now (amounts .exit)) ≡ opening header (table .threads) ⌝ }
 {
     let threads = table.threads;
-    executive::open(header, threads, dues, amounts)
+    opening::open(header, threads, dues, amounts)
 }
 
 // 1 where a core by value is a sound state with its slots, else 0.

@@ -4,10 +4,10 @@ ghost use mathlib.Core.Path.{_≡_};
 ghost use mathlib.Core.Bool.{true};
 ghost use Rattle.state.specs.Sound.{soundState};
 ghost use Rattle.state.specs.Updates.{whole};
-ghost use Rattle.executive.specs.Answer.{answerOf};
+ghost use Rattle.answers.specs.Answer.{answerOf};
 ghost use Rattle.replay_steps.specs.FileSteps.{answersFrom};
 ghost use Rattle.board_replay.specs.Replayed.{lastOf, replayOf};
-use executive::Answer;
+use answers::Answer;
 use rows::Slots;
 
 // The answer to the last of at most `count` events from an offset on, or the one that is given.

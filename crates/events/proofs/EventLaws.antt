@@ -12,6 +12,7 @@ use Rattle.records.specs.declared.Event.{Event}
 use Rattle.records.specs.Ranges.{inRange, allZero}
 use Rattle.base.proofs.TestLaws.{tests, cond-elim, cond-true, cond-false, false-true}
 use Rattle.account.specs.declared.Pending.{Pending}
+use Rattle.account.specs.Account.{newAccount}
 use Rattle.sporadic.specs.Rules.{atUpper}
 use Rattle.ready.specs.Word.{occupancy}
 use Rattle.ready.proofs.Soundness.{ListsSound}
@@ -30,7 +31,7 @@ use Rattle.moments.proofs.ChangeLaws.{withBound, changed}
 use Rattle.moments.proofs.ChargeLaws.{runs}
 use Rattle.moments.proofs.FireLaws.{bounds-same}
 use Rattle.events.specs.declared.Change.{Change}
-use Rattle.events.specs.Events.{newAccount, changeOf, shifted, withChange, concerned, eventChange, happened}
+use Rattle.events.specs.Events.{changeOf, shifted, withChange, concerned, eventChange, happened}
 use Rattle.events.specs.Answers.{fieldStatusOf, stateStatusOf, fieldStatus, stateStatus}
 use Rattle.events.proofs.FitLaws.{Fits, block-fits, quantum-fits, wake-fits, set-fits}
 

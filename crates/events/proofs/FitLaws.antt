@@ -13,7 +13,7 @@ use Rattle.account.specs.declared.Pending.{Pending}
 use Rattle.account.specs.declared.Account.{Account}
 use Rattle.sporadic.specs.declared.Place.{Place}
 use Rattle.sporadic.specs.declared.Place.the-variants.{Low, Upper}
-use Rattle.account.specs.Account.{isUpper, freshAccount}
+use Rattle.account.specs.Account.{isUpper, freshAccount, noAccount, newAccount}
 use Rattle.account.specs.Rules.{blocking, waking}
 use Rattle.sporadic.specs.Rules.{wakeEffect}
 use Rattle.account.specs.Sound.{runsUpper}
@@ -23,7 +23,7 @@ use Rattle.thread.specs.Thread.{isBlocked, assigned, fullQuantum, renewed, with
 use Rattle.state.proofs.SoundLaws.{ThreadSound, range-out, fifo-out, rr-out, sporadic-out}
 use Rattle.state.proofs.SoundLaws.ThreadSound.{absent, fifo, rr, sporadic}
 use Rattle.records.proofs.PolicyLaws.{by-zero, by-one, by-two}
-use Rattle.events.specs.Events.{ifSporadic, noAccount, newAccount}
+use Rattle.events.specs.Events.{ifSporadic}
 
 -- a thread and an account that fit a place of a sound state
 pub record Fits (start now : ℕ) (b : Bool) (t : Thread) (a : Account) : Type 0 where

@@ -14,6 +14,7 @@ use Rattle.base.specs.Tests.{zeros}
 use Rattle.records.specs.Ranges.{inRange, noParameters}
 use Rattle.base.proofs.TestLaws.{tests, All, below-at, zeros-eq, zeros-drop, zeros-replicate, cond-true, cond-false, false-true}
 use Rattle.account.specs.declared.Pending.{Pending}
+use Rattle.account.specs.Account.{newAccount}
 use Rattle.ready.specs.Lists.{appended}
 use Rattle.ready.specs.Word.{occupancy}
 use Rattle.ready.proofs.Soundness.{ListsSound}
@@ -31,7 +32,6 @@ use Rattle.state.proofs.SoundLaws.{noPending, ThreadSound, Sound, state-in}
 use Rattle.state.proofs.SoundLaws.ThreadSound.{absent, fifo, rr, sporadic}
 use Rattle.moments.proofs.ChangeLaws.{withBound, totals-set, changed-at}
 use Rattle.moments.proofs.FireLaws.{bounds-same}
-use Rattle.events.specs.Events.{newAccount}
 use Rattle.state.specs.Updates.{withHeader, withLists, withAccount}
 use Rattle.events.specs.Answers.{executive}
 use Rattle.events.specs.Opening.{emptyState, noState, withoutFlag, entered, enteredBelow, openStatus, opening}

@@ -1,11 +1,11 @@
 -- What each kind of event does to the state at its time (01 Events 2 to 6): one thread changes, with its account and its list.
 use Prim.Native.Nat.{ℕ, zero, suc}
 use mathlib.Core.{Bool.true, Bool.false, Bool.cond, List.List}
-use lib.{Dec.leb, Dec.eqb, ListN.replicate}
+use lib.Dec.{leb, eqb}
 use Rattle.records.specs.{declared.Parameters.Parameters, declared.Event.Event, Ranges.byPolicy, Kinds.byKind}
-use Rattle.account.specs.{declared.Account.Account, Account.entries, Account.freshAccount, Rules.blocking, Rules.waking}
+use Rattle.account.specs.{declared.Account.Account, Account.newAccount, Rules.blocking, Rules.waking}
 use Rattle.ready.specs.Lists.{appended, removed, moved}
-use Rattle.thread.specs.{declared.Thread.Thread, Thread.noServer, Thread.placeOf, Thread.withBlocked, Thread.withServer, Thread.fullQuantum, Thread.renewed}
+use Rattle.thread.specs.{declared.Thread.Thread, Thread.placeOf, Thread.withBlocked, Thread.withServer, Thread.fullQuantum, Thread.renewed}
 use Rattle.state.specs.{declared.State.State, State.threadAt, State.accountAt, Updates.withLists, Updates.withAccount}
 use Rattle.ticks.specs.Running.{head}
 use Rattle.events.specs.declared.Change.{Change}
@@ -13,14 +13,6 @@ use Rattle.events.specs.declared.Change.{Change}
 -- what a rule does to a sporadic thread's account; any other has none to change
 abbrev pub ifSporadic : Thread → Account → Account → Account
 ifSporadic t new a = byPolicy (t .parameters .policy) a a new
-
--- 01 State 17: no account
-abbrev pub noAccount : Account
-noAccount = record { server = noServer; pending = record { count = 0; dues = replicate entries 0; amounts = replicate entries 0 } }
-
--- 01 Events 6: the account that goes with new parameters
-abbrev pub newAccount : ℕ → Parameters → Account
-newAccount now p = byPolicy (p .policy) noAccount noAccount (freshAccount now p)
 
 -- 01 State 7: a thread t with account a that becomes u with account b leaves the list in which it stands, and becomes the tail of the one in
 -- which it then stands

@@ -4,12 +4,13 @@ use mathlib.Core.{Bool.cond, Bool.not, Bool._&&_, List.List, List.[], List._∷_
 use lib.{ListN.getD, ListN.replicate, Dec.ltb, Dec.leb, Dec.eqb}
 use Rattle.records.specs.{declared.Parameters.Parameters, declared.Header.Header, Ranges.mostThreads, Ranges.mostReplenishments, Ranges.lastTime, Ranges.inRange, Ranges.noParameters, Ranges.noHeader}
 use Rattle.base.specs.{Status.wrongThread, Status.pastLastTime, Status.wrongParameters, Tests.below, Refusals.firstRefusal}
+use Rattle.account.specs.Account.{newAccount}
 use Rattle.ready.specs.Lists.{listBytes, appended}
 use Rattle.rows.specs.Rows.{allSlots}
 use Rattle.passing.specs.Sequence.{Answer, accepted}
 use Rattle.state.specs.{declared.State.State, State.threadAt, Updates.withLists, Updates.withAccount, Updates.stateOf}
 use Rattle.thread.specs.Thread.{noThread, renewed, withBlocked}
-use Rattle.events.specs.{Events.newAccount, Answers.executive}
+use Rattle.events.specs.Answers.{executive}
 
 -- a state of so many threads, none of them there yet, at the start time
 abbrev pub emptyState : Header → State

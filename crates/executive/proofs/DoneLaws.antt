@@ -28,7 +28,7 @@ use Rattle.events.specs.declared.Change.{Change}
 use Rattle.events.specs.Events.{changeOf, shifted, withChange, concerned, eventChange, happened}
 use Rattle.events.specs.Answers.{fieldStatus, stateStatus}
 use Rattle.events.proofs.EventLaws.{Right, to-most, busy, change-right}
-use Rattle.executive.proofs.StateLaws.{put-is, lists-are}
+use Rattle.state.proofs.UpdateLaws.{put-is, lists-are}
 use Rattle.executive.proofs.RequiresLaws.{block-requires}
 
 pub happened-none : (s : State) (e : Event) → e .kind ≡ 0 → s ≡ happened s e

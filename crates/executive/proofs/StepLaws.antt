@@ -30,7 +30,8 @@ use Rattle.events.specs.Events.{happened}
 use Rattle.events.specs.Answers.{fieldStatus, stateStatusOf, stateStatus, executive}
 use Rattle.events.proofs.EventLaws.{happened-sound}
 use Rattle.events.proofs.DemandLaws.{field-passed}
-use Rattle.executive.specs.Private.{answered, unread, timeStatus, earlyStatus, soundStatus}
+use Rattle.answers.specs.Answer.{answered, unread}
+use Rattle.executive.specs.Private.{timeStatus, earlyStatus, soundStatus}
 use Rattle.executive.proofs.StatusLaws.{time-zero, early-small, state-small, early-zero, thread-small}
 use Rattle.executive.proofs.KeptLaws.{status-kept}
 

@@ -1,3 +1,2 @@
 -- What a reader of `executive` must believe, over the definitions of `events`.
-pub mod Answer
 pub mod Private

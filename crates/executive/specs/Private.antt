@@ -1,27 +1,11 @@
--- What only private functions promise: the statuses of an event in the order in which the code judges them, and the two forms of an answer.
+-- What only private functions promise: the statuses of an event in the order in which the code judges them.
 use Prim.Native.Nat.{ℕ, _+_}
 use mathlib.Core.{Bool.Bool, List.[], List._∷_}
 use lib.Dec.{ltb, eqb}
 use Rattle.records.specs.{declared.Event.Event, Ranges.lastTime, Ranges.longestStep}
 use Rattle.ready.specs.Word.{highestOf}
 use Rattle.base.specs.{Status.pastLastTime, Status.beforeNow, Status.stepTooLong, Refusals.firstRefusal, Refusals.given}
-use Rattle.passing.specs.Sequence as sequence
-use Rattle.state.specs.declared.{State.State, Core.Core}
-use Rattle.ticks.specs.Running.{running, next}
 use Rattle.events.specs.Answers.{fieldStatusOf, stateStatusOf}
-use Rattle.executive.specs.declared.Answer.{Answer}
-
--- 01 Events 8: an answer of these parts
-abbrev pub partsOf : ℕ → ℕ → ℕ → Core → Answer
-partsOf status running next c = record { status = status; running = running; next = next; core = c }
-
--- 01 Status 19: the answer that leaves a sound state, with who runs there and its next moment
-abbrev pub answered : ℕ → State → sequence.Answer State
-answered status s = record { status = status; running = running s; next = next s; state = s }
-
--- 01 Status 19 and 20: the answer that names no running thread and no next moment: for 9, and of a refused opening
-abbrev pub unread : ℕ → State → sequence.Answer State
-unread status s = record { status = status; running = 255; next = 0; state = s }
 
 -- 01 Status 2 to 4 and 15: by the time, 3, 1 or 2
 unfoldable pub timeStatus : ℕ → ℕ → ℕ

@@ -66,7 +66,7 @@ pub(super) fn change_of(e: Event, t: Thread, q: Pending) -> Change
     }
     let p = e.parameters;
     let u = thread::renew(p, t);
-    let b = parts::new_account(e.time, p);
+    let b = account::new_account(p, e.time);
     change_to(t, a, u, b)
 }
 

@@ -1,4 +1,4 @@
-// The executive: opening, events and their answers. The state goes as a core by value with its slots lent.
+// The executive: events and their answers. The state goes as a core by value with its slots lent.
 ghost use mathlib.Core.Path.{_≡_};
 ghost use mathlib.Core.Bool.{true};
 ghost use lib.ListN.{length};
@@ -8,50 +8,19 @@ ghost use Rattle.state.specs.Sound.{soundState};
 ghost use Rattle.state.specs.Updates.{stateOf, whole};
 ghost use Rattle.passing.specs.Sequence.{answer};
 ghost use Rattle.events.specs.Answers.{executive};
-ghost use Rattle.events.specs.Opening.{opening};
-ghost use Rattle.executive.specs.Answer.{answerOf};
+ghost use Rattle.answers.specs.Answer.{answerOf};
+use answers::Answer;
 use ready::LIST_BYTES;
 use records::Event;
 use records::Header;
-use records::Parameters;
 use records::THREADS;
 use rows::Slots;
 use state::Core;
 use thread::Thread;
 
-mod answers; // answers.rt: who runs and when to ask again
 mod changes; // changes.rt: what an accepted event does to the state
-mod opening; // opening.rt: the state that a table of threads gives
 mod parts; // parts.rt: what an event does to one thread and its account
-
-// Status, the running thread or 255, the next moment or 0, and the state without its slots.
-#[repr(C)]
-pub struct Answer {
-    pub status: u8,
-    pub running: u8,
-    pub next: u64,
-    pub core: Core,
-}
-
-// Opens a state: the first N threads of the table, at the start time. Any values may be handed in, whatever the slots held.
-pub fn open(
-    header: Header,
-    table: [Parameters; THREADS],
-    dues: &mut Slots,
-    amounts: &mut Slots,
-) -> Answer
-    ensures { λ r. ⌜ answerOf r (now (dues .exit)) (now (amounts .exit)) ≡ opening header table ⌝ }
-{
-    rows::clear(dues);
-    rows::clear(amounts);
-    let status = opening::open_status(header, table);
-    if status != 0 {
-        let none = opening::empty_core(Header { n: 0, start: 0 });
-        return answers::nothing_runs(status, none);
-    }
-    let c = opening::opened(header, table, dues, amounts);
-    answers::opened_answer(c, dues, amounts)
-}
+mod statuses; // statuses.rt: whether an event is accepted
 
 // Whether a state of these parts is sound; where that is known, nothing is tested.
 fn tested<'a>(
@@ -113,7 +82,7 @@ fn answer_event(mut s: Core, dues: &mut Slots, amounts: &mut Slots, e: Event, kn
     }
     let x = parts::index(e.thread);
     let named = s.threads[x];
-    let status = answers::status_of(header.n, s.now, s.word, 0 < named.blocked, e);
+    let status = statuses::status_of(header.n, s.now, s.word, 0 < named.blocked, e);
     let mut done = status != 0;
     loop {
         let n = s.header.n as usize;

@@ -5,15 +5,13 @@ ghost use lib.Dec.{leb, eqb};
 ghost use Prim.Native.Nat.{_<_};
 ghost use Rattle.records.specs.Ranges.{mostThreads, mostReplenishments, inRange, allZero};
 ghost use Rattle.account.specs.Rules.{Schedulable, blocking, waking};
-ghost use Rattle.events.specs.Events.{ifSporadic, newAccount};
+ghost use Rattle.events.specs.Events.{ifSporadic};
 ghost use Rattle.events.specs.Answers.{fieldStatusOf, stateStatusOf};
 use account::Account;
 use account::ENTRIES;
-use account::Pending;
 use records::Event;
 use records::Parameters;
 use records::THREADS;
-use sporadic::Server;
 use thread::Thread;
 
 // A thread's number as an index that never strays; 0 where there is no such place.
@@ -24,27 +22,6 @@ pub(super) fn index(x: u8) -> usize
         return x as usize;
     }
     0
-}
-
-// The account that goes with new parameters.
-pub(super) fn new_account(time: u64, p: Parameters) -> Account
-    ensures { λ r. ⌜ r ≡ newAccount time p ⌝ }
-{
-    if p.policy < 2 {
-        return Account {
-            server: Server {
-                capacity: 0,
-                used: 0,
-                activation: 0,
-            },
-            pending: Pending {
-                count: 0,
-                dues: [0u64; ENTRIES],
-                amounts: [0u64; ENTRIES],
-            },
-        };
-    }
-    account::fresh(p, time)
 }
 
 // The account of a thread that blocks.

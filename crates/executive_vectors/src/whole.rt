@@ -1,5 +1,5 @@
 // The executive on whole states: a core and its slots, joined.
-use executive::Answer;
+use answers::Answer;
 use records::Event;
 use records::Header;
 use records::Parameters;
@@ -65,7 +65,7 @@ fn with_slots(a: Answer, dues: [u64; SLOTS], amounts: [u64; SLOTS]) -> Answered 
 pub(super) fn open(header: Header, table: [Parameters; THREADS]) -> Answered {
     let mut dues = [7u64; SLOTS];
     let mut amounts = [9u64; SLOTS];
-    let a = executive::open(header, table, &mut dues, &mut amounts);
+    let a = opening::open(header, table, &mut dues, &mut amounts);
     with_slots(a, dues, amounts)
 }
 

@@ -16,7 +16,7 @@ use Rattle.records.specs.declared.Event.{Event}
 use Rattle.records.specs.Ranges.{noParameters, inRange}
 use Rattle.records.proofs.PolicyLaws.{by-two, policy-elim}
 use Rattle.account.specs.declared.Account.{Account}
-use Rattle.account.specs.Account.{freshAccount}
+use Rattle.account.specs.Account.{freshAccount, noAccount, newAccount}
 use Rattle.ready.specs.Lists.{appended}
 use Rattle.passing.specs.Sequence.{status, accepted, answer, end}
 use Rattle.passing.proofs.TimeLaws.{sound-advance}
@@ -31,7 +31,7 @@ use Rattle.state.specs.Sound.{soundState}
 use Rattle.state.proofs.SoundLaws.{sizeTests, state-out}
 use Rattle.moments.specs.Moments.{clock, passed}
 use Rattle.moments.proofs.MomentLaws.{passing}
-use Rattle.events.specs.Events.{noAccount, newAccount, changeOf, shifted, withChange, concerned, eventChange, happened}
+use Rattle.events.specs.Events.{changeOf, shifted, withChange, concerned, eventChange, happened}
 use Rattle.events.specs.Answers.{executive}
 use Rattle.events.specs.Opening.{emptyState, noState, withoutFlag, entered, enteredBelow, openStatus, opening}
 use Rattle.events.proofs.EventLaws.{and-both, change-right}

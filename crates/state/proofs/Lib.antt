@@ -3,3 +3,4 @@ pub mod SoundLaws
 pub mod TestLaws
 pub mod ThreadLaws
 pub mod AbsentLaws
+pub mod UpdateLaws

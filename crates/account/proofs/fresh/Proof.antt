@@ -1,10 +1,13 @@
 -- `account::fresh` meets its contract.
-use mathlib.Core.Path.{refl}
+use borrow.Author.Needs.{needs}
 use Rattle.account.proofs.fresh.Statement.{statement}
 use Rattle.account.proofs.fresh.Tie as tie
 
+unused-requires : tie.Need-unused-requires
+unused-requires c κs = search needs
+
 returns : tie.Need-returns
-returns c = refl
+returns c = c .unused .ensures
 
 pub fresh-spec : {M : Type 1} → statement M
-fresh-spec = tie.close (tie.spec returns)
+fresh-spec = tie.close (tie.spec unused-requires returns)

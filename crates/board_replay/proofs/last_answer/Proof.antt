@@ -7,7 +7,7 @@ use borrow.Author.Tests.{not-true, not-false}
 use Rattle.passing.specs.Sequence.{Answer}
 use Rattle.state.specs.declared.State.{State}
 use Rattle.state.specs.Sound.{soundState}
-use Rattle.executive.specs.Answer.{answerOf}
+use Rattle.answers.specs.Answer.{answerOf}
 use Rattle.replay_steps.specs.FileSteps.{FileStep, steppedWith, answersFrom}
 use Rattle.replay_steps.proofs.FileLaws.{goes-on, stops-here, stays, none-left}
 use Rattle.board_replay.specs.Replayed.{lastOf}

@@ -22,9 +22,9 @@ use Rattle.moments.proofs.SeenLaws.{seen-held}
 use Rattle.moments.proofs.AdvanceLaws.{Turn, is-next, rest-fits, rest-idle, last}
 use Rattle.moments.proofs.AnswerLaws.{head-below, running-held, next-requires}
 use Rattle.events.specs.Events.{happened}
-use Rattle.executive.specs.declared.Answer.{Answer}
-use Rattle.executive.specs.Answer.{answerOf}
-use Rattle.executive.proofs.AnswerLaws.{answered-is}
+use Rattle.answers.specs.declared.Answer.{Answer}
+use Rattle.answers.specs.Answer.{answerOf}
+use Rattle.answers.proofs.AnswerLaws.{answered-is}
 use Rattle.executive.proofs.RequiresLaws.{dues-length, amounts-length}
 use Rattle.executive.proofs.StepLaws.{Open, Stage, unsound-is, arrives, at-time, still-due, turn-falls, turn-ends, starts, carries, finishes}
 use Rattle.executive.proofs.DoneLaws.{Concerns, happened-none, who-is, change-small, change-requires, change-is}

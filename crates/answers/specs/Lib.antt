@@ -1,0 +1,2 @@
+-- What a reader of `answers` must believe.
+pub mod Answer
