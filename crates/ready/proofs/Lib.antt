@@ -4,6 +4,4 @@ pub mod WordLaws
 pub mod ListLaws
 pub mod StepLaws
 pub mod Soundness
-pub mod StrikeLaws
-pub mod PassLaws
 pub mod SoundLaws

@@ -1,27 +1,22 @@
 -- One step of each loop of the private functions.
 use mathlib.Core.Path.{_≡_, sym, ap, _∙_}
-use mathlib.Core.Bool.{false, cond}
 use mathlib.Core.List.{List, _∷_, _++_, append-assoc, append-nil}
 use Prim.Native.Nat.{ℕ, suc, _+_, _-_, _≤_, _<_}
 use native.Mathlib.Nat.{add-zero}
 use native.Mathlib.Numerals.{add-one}
 use native.Mathlib.Omega.{arith}
-use lib.Bits.{bitOr}
-use lib.Dec.{eqb}
 use lib.ListN.{length, set, take, drop, getD, length-append, length-take, length-drop, take-append-drop}
 use lib.Seq.{drop-cons, take-suc, set-at, getD-append-add, getD-drop}
 use borrow.Author.Tests.{eq-eqb, ne-eqb}
-use Rattle.base.specs.Tests.{all, zeros}
-use Rattle.base.proofs.ZeroLaws.{or-none, cond-both}
-use Rattle.ready.specs.Private.{indexOf, closed, strikes, struck}
+use Rattle.ready.specs.Private.{indexOf, closed}
 
 -- ---- from place j of a list on
 
 module _ (xs : List ℕ) (j : ℕ) (h : j < length xs) where
-  abbrev here : ℕ
+  abbrev pub here : ℕ
   here = getD xs j 0
 
-  rest : drop j xs ≡ here ∷ drop (j + 1) xs
+  pub rest : drop j xs ≡ here ∷ drop (j + 1) xs
   rest = rw add-one (drop-cons xs j 0 h)
 
   pub index-here : (i : ℕ) → here ≡ i → indexOf i (drop j xs) ≡ 0
@@ -31,23 +26,6 @@ module _ (xs : List ℕ) (j : ℕ) (h : j < length xs) where
   pub index-next : (i : ℕ) → (here ≡ i → ⊥) → indexOf i (drop j xs) ≡ suc (indexOf i (drop (j + 1) xs))
   unfolding indexOf
   index-next i e = rw rest (simp (ne-eqb here i e))
-
-  -- the bits of one number more
-  pub zeros-next : (bits : ℕ) → cond (eqb (bitOr bits here) 0) (all (zeros (drop (j + 1) xs))) false ≡ cond (eqb bits 0) (all (zeros (drop j xs))) false
-  unfolding all
-  zeros-next bits = rw (rest, or-none bits here) (cond-both (eqb bits 0) (eqb here 0) (all (zeros (drop (j + 1) xs))))
-
-  pub strikes-here : (p : ℕ) (left : List ℕ) → (getD left here 0 ≡ p → ⊥) → strikes p (drop j xs) left ≡ false
-  unfolding strikes
-  strikes-here p left e = rw rest (simp (ne-eqb (getD left here 0) p e))
-
-  pub strikes-next : (p : ℕ) (left : List ℕ) → getD left here 0 ≡ p → strikes p (drop j xs) left ≡ strikes p (drop (j + 1) xs) (set left here 0)
-  unfolding strikes
-  strikes-next p left e = rw rest (simp (eq-eqb (getD left here 0) p e))
-
-  pub struck-next : (left : List ℕ) → struck (drop j xs) left ≡ struck (drop (j + 1) xs) (set left here 0)
-  unfolding struck
-  struck-next left = rw rest
 
 -- ---- the closing of a gap
 

@@ -4,14 +4,12 @@
 // its thread numbers from head to tail, then zeros. The word has bit p - 1 set exactly when list p holds a thread.
 ghost use mathlib.Core.Path.{_≡_};
 ghost use Prim.Native.Nat.{_+_, _-_, _^_, _≤_, _<_};
-ghost use lib.ListN.{length, getD, take, drop, replicate};
-ghost use Rattle.base.specs.Tests.{all, zeros};
-ghost use Rattle.records.specs.Ranges.{mostThreads, highestPriority};
-ghost use Rattle.ready.specs.Lists.{rowBytes, listBytes, start, headOf, appended, removed, moved};
+ghost use lib.ListN.{length, take, drop, replicate};
+ghost use Rattle.records.specs.Ranges.{highestPriority};
+ghost use Rattle.ready.specs.Lists.{listBytes, start, headOf, appended, removed, moved};
 ghost use Rattle.ready.specs.Word.{occupancy, highestOf};
 ghost use Rattle.ready.specs.Rules.{Held, Joinable, Leavable, Movable};
-ghost use Rattle.ready.specs.Sound.{soundLists};
-ghost use Rattle.ready.specs.Private.{indexOf, closed, Struck, RowStruck};
+ghost use Rattle.ready.specs.Private.{indexOf, closed};
 use base::wide;
 use records::HIGHEST_PRIORITY;
 use records::THREADS;
@@ -22,7 +20,7 @@ pub const ROW_BYTES: usize = 1 + THREADS;
 pub const LIST_BYTES: usize = HIGHEST_PRIORITY as usize * ROW_BYTES;
 
 // Where the row of list p starts.
-fn row_start(p: u8) -> usize
+pub fn row_start(p: u8) -> usize
     requires { ⌜ (1 ≤ p) × (p ≤ highestPriority) ⌝ }
     ensures { λ r. ⌜ r ≡ start p ⌝ }
 {
@@ -30,7 +28,7 @@ fn row_start(p: u8) -> usize
 }
 
 // The bit of list p.
-fn bit(p: u8) -> u32
+pub fn bit(p: u8) -> u32
     requires { ⌜ (1 ≤ p) × (p ≤ highestPriority) ⌝ }
     ensures { λ r. ⌜ r ≡ 2 ^ (p - 1) ⌝ }
 {
@@ -130,89 +128,4 @@ pub fn move_to_tail(lists: &mut [u8; LIST_BYTES], word: u32, i: u8, from: u8, to
 {
     let w = remove(lists, word, from, i);
     append(lists, w, to, i)
-}
-
-// Whether all numbers are 0.
-fn all_zero(s: &[u8]) -> bool
-    ensures { λ r. ⌜ r ≡ all (zeros (now (s .entry))) ⌝ }
-{
-    // the bits of all of them, to the end in any case: compiled as sixteen bytes at a time
-    let mut bits: u8 = 0;
-    let mut j: usize = 0;
-    while j < s.len() {
-        bits = bits | s[j];
-        j = j + 1;
-    }
-    bits == 0
-}
-
-// Strikes the threads of s off `left`, where each must still have the place p.
-fn strike(s: &[u8], p: u8, left: &mut [u8; THREADS]) -> bool
-    requires { ⌜ (1 ≤ p) × (length (now left) ≡ mostThreads) ⌝ }
-    ensures { λ r. ⌜ Struck p (now (s .entry)) (now (left .entry)) (now (left .exit)) r ⌝ }
-{
-    let mut j: usize = 0;
-    while j < s.len() {
-        let i = wide(s[j]);
-        j = j + 1;
-        if THREADS <= i {
-            return false;
-        }
-        if left[i] != p {
-            return false;
-        }
-        left[i] = 0;
-    }
-    true
-}
-
-// Whether the list at the head of `part` holds a thread, all behind its threads is 0, and they, each with the place p, could be
-// struck off `left`. The part is the row of list p, and may go on behind it.
-fn strike_row(part: &[u8], p: u8, left: &mut [u8; THREADS]) -> bool
-    requires { ⌜ (1 ≤ p) × (rowBytes ≤ length (now part)) × (length (now left) ≡ mostThreads) ⌝ }
-    ensures { λ r. ⌜ RowStruck p (now (part .entry)) (now (left .entry)) (now (left .exit)) r ⌝ }
-{
-    let n = wide(part[0]);
-    if n < 1 {
-        return false;
-    }
-    if THREADS < n {
-        return false;
-    }
-    if !all_zero(&part[n + 1..]) {
-        return false;
-    }
-    strike(&part[1..n + 1], p, left)
-}
-
-// Whether lists and word are sound. One pass over the lists that the word names, from the highest down, strikes each thread off
-// a copy of the places; all between them is 0, lengths included, and at the end no place is left.
-fn sound_rows(lists: &[u8], word: u32, places: [u8; THREADS]) -> bool
-    requires { ⌜ length (now lists) ≡ listBytes ⌝ }
-    ensures { λ r. ⌜ r ≡ soundLists (λ i. getD places i 0) word (now (lists .entry)) ⌝ }
-{
-    let mut left = places;
-    let mut rest = word;
-    let mut end: usize = LIST_BYTES;
-    while 0 < rest {
-        let p = highest(rest);
-        let at = row_start(p);
-        if !strike_row(&lists[at..end], p, &mut left) {
-            return false;
-        }
-        end = at;
-        rest = rest - bit(p);
-    }
-    if !all_zero(&lists[..end]) {
-        return false;
-    }
-    all_zero(&left)
-}
-
-// Whether lists and word are sound for the places: thread i must stand once in the list of the priority places[i], and in
-// no other; at 0 it must stand in none. Any contents are decided.
-pub fn sound(lists: &[u8; LIST_BYTES], word: u32, places: [u8; THREADS]) -> bool
-    ensures { λ r. ⌜ r ≡ soundLists (λ i. getD places i 0) word (now (lists .entry)) ⌝ }
-{
-    sound_rows(lists, word, places)
 }

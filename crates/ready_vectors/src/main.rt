@@ -36,7 +36,7 @@ fn fresh() -> Case {
 fn is_sound(c: Case) -> bool {
     let lists = c.lists;
     let places = c.places;
-    ready::sound(&lists, c.word, places)
+    ready_sound::sound(&lists, c.word, places)
 }
 
 // Thread i, in no list, becomes the tail of list p.
@@ -44,7 +44,7 @@ fn append(c: Case, p: u8, i: u8) -> Case {
     let mut lists = c.lists;
     let mut places = c.places;
     let word = c.word;
-    if !ready::sound(&lists, word, places) {
+    if !ready_sound::sound(&lists, word, places) {
         return c;
     }
     if 32 <= i {
@@ -74,7 +74,7 @@ fn remove(c: Case, i: u8) -> Case {
     let mut lists = c.lists;
     let mut places = c.places;
     let word = c.word;
-    if !ready::sound(&lists, word, places) {
+    if !ready_sound::sound(&lists, word, places) {
         return c;
     }
     if 32 <= i {
@@ -99,7 +99,7 @@ fn move_to_tail(c: Case, i: u8, p: u8) -> Case {
     let mut lists = c.lists;
     let mut places = c.places;
     let word = c.word;
-    if !ready::sound(&lists, word, places) {
+    if !ready_sound::sound(&lists, word, places) {
         return c;
     }
     if 32 <= i {
@@ -165,7 +165,7 @@ fn show_head(c: Case) {
     if word == 0 {
         return;
     }
-    if !ready::sound(&lists, word, places) {
+    if !ready_sound::sound(&lists, word, places) {
         return;
     }
     text(b" head");

@@ -102,7 +102,7 @@ pub fn sound_parts<'a>(
         left = left - t.total;
         i = i + 1;
     }
-    if !ready::sound(lists, word, places) {
+    if !ready_sound::sound(lists, word, places) {
         return false;
     }
     left == idle

@@ -1,4 +1,4 @@
--- `ready::strike_row` meets its contract: the tests of the part, and then its threads.
+-- `ready_sound::strike_row` meets its contract: the tests of the part, and then its threads.
 use Prim.Native.Nat.{ℕ, _+_, _-_, _≤_, _<_}
 use mathlib.Core.Path.{_≡_, sym, ap, _∙_}
 use mathlib.Core.Bool.{Bool, true}
@@ -9,11 +9,11 @@ use lib.Seq.{take-all, drop-drop}
 use borrow.Author.Tests.{lt-leb, le-leb, not-true, not-false}
 use Rattle.base.specs.Tests.{all, zeros}
 use Rattle.base.proofs.TestLaws.{all-false, all-one, false-true}
 use Rattle.ready.specs.Lists.{size, members, unused}
-use Rattle.ready.specs.Private.{strikes, struck, Struck, RowStruck}
+use Rattle.ready_sound.specs.Private.{strikes, struck, Struck, RowStruck}
 use borrow.Author.Needs.{needs}
-use Rattle.ready.proofs.strike_row.Statement.{statement}
-use Rattle.ready.proofs.strike_row.Tie as tie
+use Rattle.ready_sound.proofs.strike_row.Statement.{statement}
+use Rattle.ready_sound.proofs.strike_row.Tie as tie
 
 -- what is tested is the part's own
 unused-part : (part : List ℕ) (n : ℕ) → n ≡ size part → take (length part - (n + 1)) (drop (n + 1) part) ≡ unused part

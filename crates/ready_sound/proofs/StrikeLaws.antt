@@ -10,10 +10,10 @@ use lib.Seq.{getD-set-other}
 use lib.Dec.{eqb}
 use borrow.Author.Tests.{eq-eqb, ne-eqb, eqb-true, lt-ltb}
 use Rattle.base.proofs.TestLaws.{tests, All, false-true}
 use Rattle.ready.specs.Lists.{occurs}
 use Rattle.ready.specs.Sound.{small}
-use Rattle.ready.specs.Private.{strikes, struck}
+use Rattle.ready_sound.specs.Private.{strikes, struck}
 use Rattle.ready.proofs.Soundness.{mark, mark-same, mark-other, mark-is}
 
 -- ---- striking off
 

@@ -1,4 +1,4 @@
--- `ready::sound_rows` meets its contract: what is left, for the lists that are left, decides the whole.
+-- `ready_sound::sound_rows` meets its contract: what is left, for the lists that are left, decides the whole.
 use Prim.Native.Nat.{ℕ, suc, _+_, _-_, _^_, _≤_}
 use mathlib.Core.Path.{_≡_, refl, sym, ap, _∙_}
 use native.Mathlib.Omega.{arith}
@@ -6,9 +6,9 @@ use lib.ListN.{drop, length-take, length-drop}
 use lib.Pow.{pow-pos}
 use borrow.Author.Needs.{needs}
 use borrow.Author.Tests.{not-true, not-false}
-use Rattle.ready.proofs.PassLaws.{Passing, Next, pass-start, pass-next, pass-fails, pass-passes, last-fails, last-decides}
-use Rattle.ready.proofs.sound_rows.Statement.{statement}
-use Rattle.ready.proofs.sound_rows.Tie as tie
+use Rattle.ready_sound.proofs.PassLaws.{Passing, Next, pass-start, pass-next, pass-fails, pass-passes, last-fails, last-decides}
+use Rattle.ready_sound.proofs.sound_rows.Statement.{statement}
+use Rattle.ready_sound.proofs.sound_rows.Tie as tie
 
 abbrev Inv-loop : tie.InvT-loop
 Inv-loop lists word left₀ rest₀ end₀ left rest end = Passing word lists left₀ left rest end

@@ -14,14 +14,14 @@ use borrow.Author.Tests.{ne-eqb, leb-true, le-leb}
 use Rattle.base.specs.Tests.{all, zeros}
 use Rattle.base.proofs.TestLaws.{tests, All, all-true, true-all, false-true, never-true, same-test}
 use Rattle.base.proofs.ZeroLaws.{Clear, part-at, part-clear, clear-part, zeros-at, at-zeros}
 use Rattle.ready.specs.Lists.{start, rowAt, size, members, unused, occurs}
 use Rattle.ready.specs.Word.{wordOf, sizeAt, occupancy, highestOf}
 use Rattle.ready.specs.Sound.{small, soundLists}
-use Rattle.ready.specs.Private.{strikes, struck, RowStruck}
+use Rattle.ready_sound.specs.Private.{strikes, struck, RowStruck}
 use Rattle.ready.proofs.RowLaws.{within, size-read, row-length}
 use Rattle.ready.proofs.WordLaws.{word-lt, word-step, word-skip}
 use Rattle.ready.proofs.Soundness.{mark, mark-same, mark-other, mark-is, RowSound, row-same, sound-true, true-sound}
-use Rattle.ready.proofs.StrikeLaws.{struck-length, strikes-count, count-strikes, small-none, none-small, After, after}
+use Rattle.ready_sound.proofs.StrikeLaws.{struck-length, strikes-count, count-strikes, small-none, none-small, After, after}
 
 -- ---- runs of zeros
 

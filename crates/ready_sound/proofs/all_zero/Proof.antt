@@ -1,4 +1,4 @@
--- `ready::all_zero` meets its contract: the bits that were seen and what is left to test give the whole answer.
+-- `ready_sound::all_zero` meets its contract: the bits that were seen and what is left to test give the whole answer.
 use Prim.Native.Nat.{ℕ, _-_, _≤_}
 use mathlib.Core.Path.{_≡_, refl, sym, ap, _∙_}
 use mathlib.Core.Bool.{false, cond}
@@ -8,11 +8,11 @@ use lib.ListN.{length, drop, drop-of-length-le}
 use lib.Dec.{eqb}
 use Rattle.base.specs.Tests.{all, zeros}
 use Rattle.base.proofs.TestLaws.{all-one}
-use Rattle.ready.proofs.StepLaws.{zeros-next}
-use Rattle.ready.proofs.all_zero.Statement.{statement}
-use Rattle.ready.proofs.all_zero.Tie as tie
-use Rattle.ready.proofs.all_zero.Reads as reads
-use Rattle.ready.proofs.all_zero.Lts as lts
+use Rattle.ready_sound.proofs.StepLaws.{zeros-next}
+use Rattle.ready_sound.proofs.all_zero.Statement.{statement}
+use Rattle.ready_sound.proofs.all_zero.Tie as tie
+use Rattle.ready_sound.proofs.all_zero.Reads as reads
+use Rattle.ready_sound.proofs.all_zero.Lts as lts
 
 abbrev Inv-loop : tie.InvT-loop
 Inv-loop s bits₀ j₀ bits j = (j ≤ length s) × (cond (eqb bits 0) (all (zeros (drop j s))) false ≡ all (zeros s))

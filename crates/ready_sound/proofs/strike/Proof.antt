@@ -1,4 +1,4 @@
--- `ready::strike` meets its contract: what is left to strike off gives the whole answer.
+-- `ready_sound::strike` meets its contract: what is left to strike off gives the whole answer.
 use Prim.Native.Nat.{ℕ, _-_, _≤_}
 use mathlib.Core.Path.{_≡_, refl, sym, ap, _∙_}
 use mathlib.Core.List.{List, []}
@@ -6,10 +6,10 @@ use native.Mathlib.Omega.{arith}
 use borrow.Author.Needs.{needs}
 use lib.ListN.{length, drop, getD, length-set, drop-of-length-le, List·getD-eq-default}
 use Rattle.base.proofs.TestLaws.{false-true}
-use Rattle.ready.specs.Private.{strikes, struck}
-use Rattle.ready.proofs.StepLaws.{strikes-here, strikes-next, struck-next}
-use Rattle.ready.proofs.strike.Statement.{statement}
-use Rattle.ready.proofs.strike.Tie as tie
+use Rattle.ready_sound.specs.Private.{strikes, struck}
+use Rattle.ready_sound.proofs.StepLaws.{strikes-here, strikes-next, struck-next}
+use Rattle.ready_sound.proofs.strike.Statement.{statement}
+use Rattle.ready_sound.proofs.strike.Tie as tie
 
 abbrev Inv-loop : tie.InvT-loop
 Inv-loop s p left₀ j₀ left j =
