@@ -2,8 +2,8 @@
 ghost use mathlib.Core.Path.{_≡_};
 ghost use mathlib.Core.List.{[], _∷_, _++_};
 ghost use lib.Dec.{eqb};
-ghost use Prim.Native.Nat.{_*_, _≤_, _<_};
-ghost use lib.ListN.{length, drop};
+ghost use Prim.Native.Nat.{_-_, _*_, _≤_, _<_};
+ghost use lib.ListN.{length, take, drop};
 ghost use Rattle.base.specs.Tests.{all, zeros};
 ghost use Rattle.records.specs.Ranges.{mostThreads};
 ghost use Rattle.account.specs.Account.{entries};
@@ -11,6 +11,7 @@ ghost use Rattle.rows.specs.Rows.{allSlots, pendingOf};
 ghost use Rattle.state.specs.Sound.{serverTests, leftTests, presentFields, absentFields, presentTest};
 use account::ENTRIES;
 use records::THREADS;
+use rows::SLOTS;
 use sporadic::Server;
 use thread::Thread;
 
@@ -78,13 +79,21 @@ pub(super) fn no_thread(t: Thread, count: u8) -> bool
     (words | (p.flag as u64) | long(bytes)) == 0
 }
 
+// Whether no slot from `from` on up to `end` holds a number.
+fn clear_slots<'a>(from: usize, end: usize, dues: &'a [u64], amounts: &'a [u64]) -> bool
+    requires { ⌜ (from ≤ end) × (end ≤ allSlots) × (length (now dues) ≡ allSlots) × (length (now amounts) ≡ allSlots) ⌝ }
+    ensures { λ r. ⌜ r ≡ all (all (zeros (take (end - from) (drop from (now (dues .entry))))) ∷ all (zeros (take (end - from) (drop from (now (amounts .entry))))) ∷ []) ⌝ }
+{
+    account_sound::clear(&dues[from..end], &amounts[from..end])
+}
+
 // Whether no slot from thread n on holds a number.
 pub(super) fn no_slots<'a>(n: usize, dues: &'a [u64], amounts: &'a [u64]) -> bool
     requires { ⌜ (n ≤ mostThreads) × (length (now dues) ≡ allSlots) × (length (now amounts) ≡ allSlots) ⌝ }
     ensures { λ r. ⌜ r ≡ all (all (zeros (drop (n * entries) (now (dues .entry)))) ∷ all (zeros (drop (n * entries) (now (amounts .entry)))) ∷ []) ⌝ }
 {
     let from = n * ENTRIES;
-    account_sound::clear(&dues[from..], &amounts[from..])
+    clear_slots(from, SLOTS, dues, amounts)
 }
 
 // Whether thread i, below N, is sound.
@@ -125,5 +134,5 @@ pub(super) fn thread_holds<'a>(
     if counts[i] != 0 {
         return false;
     }
-    account_sound::clear(&dues[from..end], &amounts[from..end])
+    clear_slots(from, end, dues, amounts)
 }

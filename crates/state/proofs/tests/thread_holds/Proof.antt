@@ -141,43 +141,19 @@ returns-4 c =
     none (a .start) (a .time) (a .t) q _ (decided-true _ (i .before .present-fields .ensures) (i .if1 .left)) (l .if2 .left)
     (sym (all-false (noAccountTests (a .t .server) q) 3 (ne-eqb _ _ (c .if4 .taken))))
 
-mul-clear : tie.Need-mul-clear
-mul-clear c = search needs
-
-sub-clear : tie.Need-sub-clear
-sub-clear c = search needs
-
-part-clear-start : tie.Need-part-clear-start
-part-clear-start c = search needs
-
-part-clear-end : tie.Need-part-clear-end
-part-clear-end c = search needs
-
-mul-clear-2 : tie.Need-mul-clear-2
-mul-clear-2 c = search needs
-
-sub-clear-2 : tie.Need-sub-clear-2
-sub-clear-2 c = search needs
-
-part-clear-start-2 : tie.Need-part-clear-start-2
-part-clear-start-2 c = search needs
-
-part-clear-end-2 : tie.Need-part-clear-end-2
-part-clear-end-2 c = search needs
-
-clear-requires : tie.Need-clear-requires
-clear-requires c κs = search needs
+clear-slots-requires : tie.Need-clear-slots-requires
+clear-slots-requires c κs = search needs
 
 returns-5 : tie.Need-returns-5
 returns-5 c =
-    let z = c .before .before .before in
+    let z = c .before in
     let v = z .before .before in
     let l = v .before .before in
     let i = l .before .before .before .before in
     let a = i .before .before .before .before .args in
     let q = pendingOf (a .counts .now) (a .dues .now) (a .amounts .now) (a .i) in
     none (a .start) (a .time) (a .t) q _ (decided-true _ (i .before .present-fields .ensures) (i .if1 .left)) (l .if2 .left)
-    (c .clear .ensures
+    (c .clear-slots .ensures
     ∙ ap₂ (λ (ds xs : List ℕ). all (all (zeros ds) ∷ all (zeros xs) ∷ [])) (lent (a .i) (a .dues .now)) (lent (a .i) (a .amounts .now))
     ∙ slots (a .start) (a .time) (a .t) q (decided-true _ (v .before .no-server .ensures) (v .if3 .left)) (z .if4 .left))
 
@@ -204,13 +180,5 @@ thread-holds-spec =
     returns-3
     element-copy-out-if4
     returns-4
-    mul-clear
-    sub-clear
-    part-clear-start
-    part-clear-end
-    mul-clear-2
-    sub-clear-2
-    part-clear-start-2
-    part-clear-end-2
-    clear-requires
+    clear-slots-requires
     returns-5)
