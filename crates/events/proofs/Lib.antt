@@ -4,4 +4,3 @@ pub mod EventLaws
 pub mod OpeningLaws
 pub mod DemandLaws
 pub mod ReportLaws
-pub mod Computed

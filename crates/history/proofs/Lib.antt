@@ -1,5 +1,3 @@
--- The replay, by computing.
-pub mod Computed
 -- A property of an account and its steps, over the rules, the moments and the events; then the budget.
 pub mod SeenLaws
 pub mod PassedLaws

@@ -1,0 +1,2 @@
+-- The worked table, by computing.
+pub mod Computed

@@ -1,0 +1,2 @@
+-- Worked histories, by computing.
+pub mod Computed
