@@ -3,14 +3,8 @@ use Prim.Native.Nat.{ℕ, _+_, _*_}
 use lib.ListN.{length}
 use Rattle.records.specs.Ranges.{mostThreads}
 use Rattle.trace_records.specs.Layout.{mostEvents}
+use Rattle.text.specs.Widths.{byteField, longField}
 use Rattle.listing.specs.Lines.{threadWord, idleWord}
-
--- fields of so many digits at most, each with the byte after it: a byte's number, and any number of 64 bits
-abbrev pub byteField : ℕ
-byteField = 3 + 1
-
-abbrev pub longField : ℕ
-longField = 20 + 1
 
 -- an event's number has at most 4 digits, and a thread's 2
 abbrev pub eventLineMost : ℕ

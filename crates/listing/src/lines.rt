@@ -6,7 +6,8 @@ ghost use Rattle.records.specs.Ranges.{mostThreads};
 ghost use Rattle.trace_records.specs.Layout.{mostEvents};
 ghost use Rattle.text.specs.Fields.{labelled};
 ghost use Rattle.listing.specs.Lines.{headerLine, eventLine, threadLine};
-ghost use Rattle.listing.specs.Private.{longField, eventLineMost, threadLineMost};
+ghost use Rattle.text.specs.Widths.{longField};
+ghost use Rattle.listing.specs.Private.{eventLineMost, threadLineMost};
 use text::put_row;
 use text::put_word;
 

@@ -1,4 +1,5 @@
 -- What a reader of `text` must believe.
 pub mod Decimal
 pub mod Fields
+pub mod Widths
 pub mod Placed

@@ -1,7 +1,8 @@
 -- `listing::lines::put_event` meets its contract: its four fields.
 use borrow.Author.Needs.{needs}
 use Rattle.listing.specs.Lines.{eventLine}
-use Rattle.listing.proofs.LineLaws.{event-length, within, ended}
+use Rattle.text.proofs.FieldLaws.{within, ended}
+use Rattle.listing.proofs.LineLaws.{event-length}
 use Rattle.listing.proofs.lines.put_event.Statement.{statement}
 use Rattle.listing.proofs.lines.put_event.Tie as tie
 

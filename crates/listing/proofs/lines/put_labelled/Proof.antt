@@ -1,6 +1,6 @@
 -- `listing::lines::put_labelled` meets its contract: the longest number fits.
 use borrow.Author.Needs.{needs}
-use Rattle.listing.proofs.LineLaws.{labelled-length, within, ended}
+use Rattle.text.proofs.FieldLaws.{labelled-length, within, ended}
 use Rattle.listing.proofs.lines.put_labelled.Statement.{statement}
 use Rattle.listing.proofs.lines.put_labelled.Tie as tie
 

@@ -3,7 +3,8 @@ use borrow.Author.Needs.{needs}
 use Rattle.text.specs.Fields.{row}
 use Rattle.text.proofs.PlacedLaws.{room-first, room-second, both}
 use Rattle.listing.specs.Lines.{threadWord, threadLine}
-use Rattle.listing.proofs.LineLaws.{thread-length, within, ended}
+use Rattle.text.proofs.FieldLaws.{within, ended}
+use Rattle.listing.proofs.LineLaws.{thread-length}
 use Rattle.listing.proofs.lines.put_thread.Statement.{statement}
 use Rattle.listing.proofs.lines.put_thread.Tie as tie
 
