@@ -1,0 +1,5 @@
+-- Lines by computing.
+pub mod Computed
+-- Laws that the crates above use.
+pub mod LineLaws
+pub mod SumLaws
