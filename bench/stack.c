@@ -35,7 +35,7 @@ AT(thawonlai_to_text)
 static uint8_t file[LONGEST], out[LONGEST], text[1 << 18];
 static size_t length;
 static struct core core;
-static uint64_t dues[SLOTS], amounts[SLOTS], replayed_dues[SLOTS], replayed_amounts[SLOTS];
+static uint64_t dues[SLOTS], amounts[SLOTS], told[NUMBERS], replayed_dues[SLOTS], replayed_amounts[SLOTS];
 static struct event event;
 static struct table table;
 static uint64_t start;
@@ -46,7 +46,7 @@ static struct listed listed;
 
 static void *call(void *which) {
     switch ((int)(intptr_t)which) {
-    case EVENT: at_thawonlai_event(&core, dues, amounts, event); break;
+    case EVENT: at_thawonlai_event(&core, dues, amounts, told, event); break;
     case OPEN: opened = at_thawonlai_open((struct header){ .n = n, .start = start }, table, dues, amounts); break;
     case SOUND: at_thawonlai_sound(&core, dues, amounts); break;
     case NEXT_DUE: at_thawonlai_next_due(core.counts, dues, n); break;

@@ -4,7 +4,7 @@
 #include <stdio.h>
 #include <string.h>
 
-enum { IN_USE = 20 };
+enum { IN_USE = 20, FILL = 0xa5 };
 
 /* Threads of the three policies in turn, by threes runnable and blocked. */
 static struct table a_table(void) {
@@ -40,7 +40,7 @@ static int same(const struct core *a, const struct core *b) {
 }
 
 int main(void) {
-    static uint64_t dues[SLOTS], amounts[SLOTS], zeros[SLOTS];
+    static uint64_t dues[SLOTS], amounts[SLOTS], told[NUMBERS], zeros[SLOTS];
     struct answer opened = thawonlai_open((struct header){ .n = IN_USE, .start = 7 }, a_table(), dues, amounts);
     if (opened.status != 0) {
         printf("tests/blocked: opening is refused with %d\n", opened.status);
@@ -55,14 +55,16 @@ int main(void) {
             struct core given = s;
             int found = thawonlai_sound(&s, dues, amounts);
             struct event clock = { .time = s.now };
-            struct reply r = thawonlai_event(&s, dues, amounts, clock);
+            memset(told, FILL, sizeof told);
+            struct reply r = thawonlai_event(&s, dues, amounts, told, clock);
             int replied = sound ? r.status == 0 && r.running == opened.running && r.next == opened.next
                                 : r.status == 9 && r.running == 255 && r.next == 0;
             int kept = same(&s, &given) && !memcmp(dues, zeros, sizeof dues) && !memcmp(amounts, zeros, sizeof amounts);
-            if (found != sound || !replied || !kept) {
+            int nothing = !memcmp(told, zeros, sizeof told);
+            if (found != sound || !replied || !kept || !nothing) {
                 if (wrong++ < 5)
-                    printf("tests/blocked: byte %d of thread %d: sound %d, status %d running %d next %llu%s\n", byte, i, found, r.status,
-                           r.running, (unsigned long long)r.next, kept ? "" : ", another state");
+                    printf("tests/blocked: byte %d of thread %d: sound %d, status %d running %d next %llu%s%s\n", byte, i, found, r.status,
+                           r.running, (unsigned long long)r.next, kept ? "" : ", another state", nothing ? "" : ", something told");
             }
         }
     }

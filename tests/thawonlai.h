@@ -5,7 +5,7 @@
 #include <stddef.h>
 #include <stdint.h>
 
-enum { THREADS = 32, ENTRIES = 8, SLOTS = THREADS * ENTRIES, ROW = 33, EVENTS = 1500 };
+enum { THREADS = 32, ENTRIES = 8, SLOTS = THREADS * ENTRIES, NUMBERS = THREADS * 4, ROW = 33, EVENTS = 1500 };
 
 struct parameters { uint8_t policy, priority, low, max_repl; uint32_t flag; uint64_t budget, period; };
 struct event { uint64_t time; uint8_t kind, thread; struct parameters parameters; };
@@ -33,7 +33,9 @@ struct listed { uint8_t status; size_t length; };
 struct made { uint8_t status; size_t line, total; };
 struct checked { uint8_t verdict, status; size_t line; };
 
-struct reply thawonlai_event(struct core *core, uint64_t *dues, uint64_t *amounts, struct event e);
+/* writes over all of the NUMBERS told: from 4 * i on what happened to thread i, that is the limits reached, the quanta ended, the
+   replenishments carried out and the sum of their amounts; zeros where the event is refused */
+struct reply thawonlai_event(struct core *core, uint64_t *dues, uint64_t *amounts, uint64_t *told, struct event e);
 struct answer thawonlai_open(struct header header, struct table table, uint64_t *dues, uint64_t *amounts);
 uint8_t thawonlai_sound(const struct core *core, const uint64_t *dues, const uint64_t *amounts);
 struct next_due thawonlai_next_due(const uint8_t counts[THREADS], const uint64_t dues[SLOTS], uint32_t n);

@@ -135,10 +135,12 @@ enum Side {
 
 const SIDES: [Side; 3] = [Side::Code, Side::Plain, Side::Model];
 
-/// What a measurement changes: the state of each side, and the file or the listing that is written.
+/// What a measurement changes: the state of each side, the numbers that the code tells of an event,
+/// and the file or the listing that is written.
 struct Lent {
     s: State,
     t: board::State,
+    told: board::Told,
     out: Vec<u8>,
 }
 
@@ -161,6 +163,7 @@ impl Case {
         Lent {
             s: self.state,
             t: self.given,
+            told: board::NOTHING_TOLD,
             out: match self.what {
                 What::Text | What::Listing => vec![0; room],
                 _ => Vec::new(),
@@ -186,7 +189,7 @@ impl Case {
 #[inline(never)]
 #[no_mangle]
 extern "C" fn bench_measured(case: &Case, side: Side, lent: &mut Lent) {
-    let Lent { s, t, out } = lent;
+    let Lent { s, t, told, out } = lent;
     match (case.what, side == Side::Code) {
         (What::Text, true) => {
             black_box(board::from_text(&case.text, out));
@@ -216,7 +219,7 @@ extern "C" fn bench_measured(case: &Case, side: Side, lent: &mut Lent) {
         }
         (_, true) => {
             for e in &case.records {
-                black_box(board::event(t, *e));
+                black_box(board::event(t, told, *e));
             }
         }
         (_, false) => {

@@ -9,6 +9,7 @@ ghost use Rattle.state.specs.Sound.{soundState};
 ghost use Rattle.state.specs.Updates.{whole};
 ghost use Rattle.events.specs.Answers.{executive};
 ghost use Rattle.events.specs.Opening.{opening};
+ghost use Rattle.events.specs.Reports.{eventNumbers};
 ghost use Rattle.answers.specs.Answer.{answerOf};
 ghost use Rattle.board.specs.Board.{replied, done};
 use answers::Answer;
@@ -16,6 +17,7 @@ use records::Event;
 use records::Header;
 use records::Parameters;
 use records::THREADS;
+use reports::NUMBERS;
 use rows::Slots;
 use state::Core;
 
@@ -41,10 +43,17 @@ pub struct Table {
 }
 
 // An event for a core by value.
-fn event_done(c: Core, dues: &mut Slots, amounts: &mut Slots, e: Event) -> Done
-    ensures { λ r. ⌜ done r (now (dues .exit)) (now (amounts .exit)) ≡ answer executive (whole c (now (dues .entry)) (now (amounts .entry))) e ⌝ }
+fn event_done(
+    c: Core,
+    dues: &mut Slots,
+    amounts: &mut Slots,
+    told: &mut [u64; NUMBERS],
+    e: Event,
+) -> Done
+    ensures { λ r. ⌜ (done r (now (dues .exit)) (now (amounts .exit)) ≡ answer executive (whole c (now (dues .entry)) (now (amounts .entry))) e)
+        × (now (told .exit) ≡ eventNumbers (whole c (now (dues .entry)) (now (amounts .entry))) e) ⌝ }
 {
-    let a = executive::event(c, dues, amounts, e);
+    let a = executive::event(c, dues, amounts, told, e);
     let core = a.core;
     Done {
         core: core,
@@ -56,17 +65,19 @@ fn event_done(c: Core, dues: &mut Slots, amounts: &mut Slots, e: Event) -> Done
     }
 }
 
-// An event for a lent state, which is left as the answer says.
+// An event for a lent state, which is left as the answer says, with what happened told in the lent numbers, whatever they held.
 #[no_mangle]
 pub extern "C" fn thawonlai_event(
     core: &mut Core,
     dues: &mut Slots,
     amounts: &mut Slots,
+    told: &mut [u64; NUMBERS],
     e: Event,
 ) -> Reply
-    ensures { λ r. ⌜ replied r (whole (now (core .exit)) (now (dues .exit)) (now (amounts .exit))) ≡ answer executive (whole (now (core .entry)) (now (dues .entry)) (now (amounts .entry))) e ⌝ }
+    ensures { λ r. ⌜ (replied r (whole (now (core .exit)) (now (dues .exit)) (now (amounts .exit))) ≡ answer executive (whole (now (core .entry)) (now (dues .entry)) (now (amounts .entry))) e)
+        × (now (told .exit) ≡ eventNumbers (whole (now (core .entry)) (now (dues .entry)) (now (amounts .entry))) e) ⌝ }
 {
-    let d = event_done(*core, dues, amounts, e);
+    let d = event_done(*core, dues, amounts, told, e);
     *core = d.core;
     d.reply
 }

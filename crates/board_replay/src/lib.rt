@@ -8,6 +8,7 @@ ghost use Rattle.answers.specs.Answer.{answerOf};
 ghost use Rattle.replay_steps.specs.FileSteps.{answersFrom};
 ghost use Rattle.board_replay.specs.Replayed.{lastOf, replayOf};
 use answers::Answer;
+use reports::NUMBERS;
 use rows::Slots;
 
 // The answer to the last of at most `count` events from an offset on, or the one that is given.
@@ -28,8 +29,9 @@ fn last_answer(
     let mut left = count;
     while 0 < left {
         left -= 1;
+        let mut told = [0u64; NUMBERS];
         let c = a.core;
-        let step = replay_steps::step_at(c, dues, amounts, file, offset);
+        let step = replay_steps::step_at(c, dues, amounts, &mut told, file, offset);
         if !step.more {
             let core = step.answer.core;
             return Answer {

@@ -1,17 +1,18 @@
 -- What events tell adds up over whole sequences, and no number of it is large.
 use Prim.Native.Nat.{ℕ, zero, suc, _≤_, _<_}
-use mathlib.Core.Bool.{Bool, true, false}
+use mathlib.Core.Bool.{Bool, true, false, cond}
 use mathlib.Core.Path.{_≡_, refl, sym, ap, _∙_, subst⁻¹}
-use mathlib.Core.List.{[]}
+use mathlib.Core.List.{[], _∷_}
 use lib.ListN.{List·getD-eq-default}
-use lib.Dec.{ltb}
+use lib.Dec.{ltb, eqb}
 use native.Mathlib.Omega.{arith}
 use native.Mathlib.Decide.{ℕ-discrete}
 use borrow.Author.Tests.{ltb-true}
 use Rattle.base.proofs.TestLaws.{tests}
 use Rattle.records.specs.declared.Parameters.{Parameters}
 use Rattle.records.specs.declared.Event.{Event}
-use Rattle.records.proofs.PolicyLaws.{policy-elim, policy-low, by-two}
+use Rattle.records.specs.Ranges.{byPolicy}
+use Rattle.records.proofs.PolicyLaws.{policy-elim}
 use Rattle.sporadic.specs.declared.Server.{Server}
 use Rattle.sporadic.specs.declared.Effect.{Effect}
 use Rattle.sporadic.specs.Rules.{blockEffect}
@@ -21,9 +22,9 @@ use Rattle.passing.proofs.TimeLaws.{sound-advance}
 use Rattle.passing.proofs.SequenceLaws.{acceptable}
 use Rattle.passing.proofs.ReportLaws.{reports-add-up, report-accepted, report-refused}
 use Rattle.reports.specs.Steps.{Log}
-use Rattle.reports.specs.Tallies.{Tally, returned, ofThread, noTallies, both, tallied, numbers, moreOf}
+use Rattle.reports.specs.Tallies.{Tally, nothing, backTally, returned, ofThread, noTallies, both, tallied, numbers}
 use Rattle.reports.proofs.TallyLaws.{AtMost, plus-most, most-more, none-most, both-none}
-use Rattle.reports.proofs.NumberLaws.{no-numbers, numbers-most, more-of}
+use Rattle.reports.proofs.NumberLaws.{no-numbers, numbers-most}
 use Rattle.thread.specs.declared.Thread.{Thread}
 use Rattle.thread.specs.Thread.{noThread}
 use Rattle.state.specs.declared.State.{State}
@@ -31,13 +32,13 @@ use Rattle.state.specs.State.{threadAt, pendingAt}
 use Rattle.state.proofs.SoundLaws.{ThreadSound, Sound, state-out}
 use Rattle.state.proofs.SoundLaws.ThreadSound.{absent, fifo, rr, sporadic}
 use Rattle.moments.specs.Moments.{clock, passed}
-use Rattle.moments.specs.Reports.{tallies, reported}
+use Rattle.moments.specs.Reports.{ruled, tallies, reported}
 use Rattle.moments.proofs.MomentLaws.{passing}
 use Rattle.moments.proofs.ReportLaws.{tally-laws}
 use Rattle.moments.proofs.ReportBounds.{returned-most, one-told, reported-most}
 use Rattle.events.specs.Events.{concerned}
 use Rattle.events.specs.Answers.{executive}
-use Rattle.events.specs.Reports.{ownLogOf, ownTallies, eventTallies, TalliesAddUp, RefusedTellsZeros, NumbersFit, eventNumbers}
+use Rattle.events.specs.Reports.{ownLogOf, ownBack, OnlyBlocksTell, ownTallies, eventTallies, TalliesAddUp, RefusedTellsZeros, NumbersFit, eventNumbers}
 use Rattle.events.proofs.DemandLaws.{lawful}
 
 -- 02 E3 4
@@ -48,10 +49,34 @@ tallies-add-up = reports-add-up executive tallies ownTallies lawful tally-laws (
 pub refused-tells-zeros : RefusedTellsZeros
 refused-tells-zeros s e p = ap numbers (report-refused executive tallies ownTallies s e (λ z. omega arith)) ∙ no-numbers
 
+-- ---- an event's own effect
+
+none-of : (i : ℕ) → noTallies ≡ ofThread i nothing
+none-of i = λ x j. sym (same (eqb i j)) x
+  where
+    same : (b : Bool) → cond b nothing nothing ≡ nothing
+    same true = refl
+    same false = refl
+
+pub only-blocks-tell : OnlyBlocksTell
+only-blocks-tell zero i t s = none-of i
+only-blocks-tell (suc zero) i t s = go (t .parameters .policy)
+  where
+    e : Effect
+    e = blockEffect (s .now) false (t .parameters) (t .server)
+
+    go : (p : ℕ) → tallied (byPolicy p [] [] (ruled i e s ∷ [])) ≡ ofThread i (backTally (byPolicy p 0 0 (e .back)))
+    go zero = none-of i
+    go (suc zero) = none-of i
+    go (suc (suc p)) = both-none (ofThread i (returned e))
+only-blocks-tell (suc (suc zero)) i t s = none-of i
+only-blocks-tell (suc (suc (suc zero))) i t s = none-of i
+only-blocks-tell (suc (suc (suc (suc k)))) i t s = none-of i
+
 -- ---- no number is large
 
 -- U of a thread is at most its budget; past the threads there is none
-used-most : (s : State) → Sound s → (j : ℕ) → threadAt s j .server .used ≤ 1000000000
+pub used-most : (s : State) → Sound s → (j : ℕ) → threadAt s j .server .used ≤ 1000000000
 used-most s h j = go (ltb j 32) refl
   where
     each : ThreadSound (s .header .start) (s .now) (s .now) (ltb j (s .header .n)) (threadAt s j) (pendingAt s j) → threadAt s j .server .used ≤ 1000000000
@@ -64,7 +89,7 @@ used-most s h j = go (ltb j 32) refl
     go true e = each (h .each j (ltb-true j 32 e))
     go false e = omega (arith, ap (λ (x : Thread). x .server .used) (List·getD-eq-default (s .threads) noThread {n = j} (omega (tests, h .sizes, e))))
 
-block-back : (now : ℕ) (p : Parameters) (v : Server) → blockEffect now false p v .back ≤ v .used
+pub block-back : (now : ℕ) (p : Parameters) (v : Server) → blockEffect now false p v .back ≤ v .used
 block-back now p v = schedule-elim now p v (λ (e : Effect). e .back ≤ v .used) (λ u. omega arith) (λ u d. omega arith) (λ u d. omega arith)
 
 own-most : (kind i j : ℕ) (t : Thread) (s : State) → t .server .used ≤ 1000000000 → AtMost 1 1000000000 (tallied (ownLogOf kind i t s) j)
@@ -108,37 +133,11 @@ numbers-fit = (
       (λ j l. most-more 2000257 2000257000000000 2000257000000000 2000257000000000 (eventTallies s e j) (omega arith) (omega arith) (event-most s e j)) k,
 )
 
--- ---- what an accepted event tells, for code that adds it up: the numbers of the moments, and what a block brings back at once
-
-own-none : (kind i : ℕ) (t : Thread) (s : State) → (kind ≡ 1 → t .parameters .policy < 2) → tallied (ownLogOf kind i t s) ≡ noTallies
-own-none zero i t s f = refl
-own-none (suc zero) i t s f = ap tallied (policy-low {A = Log} (t .parameters .policy) [] _ (f refl))
-own-none (suc (suc zero)) i t s f = refl
-own-none (suc (suc (suc zero))) i t s f = refl
-own-none (suc (suc (suc (suc k)))) i t s f = refl
+-- ---- what an accepted event tells, for code that adds it up: the numbers of the moments, and those of its own effect
 
 module _ (s : State) (e : Event) (z : status executive s e ≡ 0) where
   abbrev u : State
   u = passed s (e .time)
 
-  parts : eventNumbers s e ≡ numbers (both (reported s (e .time)) (ownTallies u e))
-  parts = ap numbers (report-accepted executive tallies ownTallies s e z)
-
-  pub quiet-told : (e .kind ≡ 1 → threadAt u (concerned u e) .parameters .policy < 2) → eventNumbers s e ≡ numbers (reported s (e .time))
-  quiet-told f =
-      parts
-      ∙ ap (λ (g : ℕ → Tally). numbers (both (reported s (e .time)) g)) (own-none (e .kind) (concerned u e) (threadAt u (concerned u e)) u f)
-      ∙ ap numbers (both-none (reported s (e .time)))
-
-  abbrev blocked : Effect
-  blocked = blockEffect (u .now) false (threadAt u (concerned u e) .parameters) (threadAt u (concerned u e) .server)
-
-  pub block-told : e .kind ≡ 1 → threadAt u (concerned u e) .parameters .policy ≡ 2 → concerned u e < 32
-      → eventNumbers s e ≡ moreOf (concerned u e) (returned blocked) (numbers (reported s (e .time)))
-  block-told k c l =
-      parts
-      ∙ ap (λ (g : ℕ → Tally). numbers (both (reported s (e .time)) g))
-      (ap (λ (x : ℕ). tallied (ownLogOf x (concerned u e) (threadAt u (concerned u e)) u)) k
-      ∙ ap tallied (by-two {A = Log} (threadAt u (concerned u e) .parameters .policy) [] [] _ c)
-      ∙ both-none (ofThread (concerned u e) (returned blocked)))
-      ∙ sym (more-of (concerned u e) (returned blocked) (reported s (e .time)) l)
+  pub both-told : eventNumbers s e ≡ numbers (both (reported s (e .time)) (ownTallies u e))
+  both-told = ap numbers (report-accepted executive tallies ownTallies s e z)

@@ -12,7 +12,7 @@ use Rattle.sporadic.specs.Rules.{blockEffect}
 use Rattle.passing.specs.Sequence.{status}
 use Rattle.passing.specs.Reports.{report, reports, ReportsAddUp}
 use Rattle.reports.specs.Steps.{Log}
-use Rattle.reports.specs.Tallies.{Tally, tallied, perThread, numbers}
+use Rattle.reports.specs.Tallies.{Tally, backTally, ofThread, tallied, perThread, numbers}
 use Rattle.rows.specs.Rows.{allSlots}
 use Rattle.thread.specs.declared.Thread.{Thread}
 use Rattle.state.specs.declared.State.{State}
@@ -30,6 +30,14 @@ ownLogOf kind i t s =
     byKind kind []
     (byPolicy (t .parameters .policy) [] [] (ruled i (blockEffect (s .now) false (t .parameters) (t .server)) s ∷ []))
     [] [] []
+
+-- the amount that it brings back, 0 for none
+abbrev pub ownBack : ℕ → ℕ → Thread → ℕ
+ownBack kind time t = byKind kind 0 (byPolicy (t .parameters .policy) 0 0 (blockEffect time false (t .parameters) (t .server) .back)) 0 0 0
+
+-- 02 E3 3, ours: of the effects only a block's tells anything, which is what it brings back
+abbrev pub OnlyBlocksTell : Type 0
+OnlyBlocksTell = (kind i : ℕ) (t : Thread) (s : State) → tallied (ownLogOf kind i t s) ≡ ofThread i (backTally (ownBack kind (s .now) t))
 
 abbrev pub ownLog : State → Event → Log
 ownLog s e = ownLogOf (e .kind) (concerned s e) (threadAt s (concerned s e)) s

@@ -79,12 +79,12 @@ module _ (now time : ℕ) where
   unfolding timeStatus firstRefusal
   time-right a b c = simp (le-ltb 1000000000000000 time a, le-ltb time now b, le-ltb (now + 1000000) time c)
 
-  pub time-zero : timeStatus now time ≡ 0 → (now ≤ time) × (time ≤ 1000000000000000)
+  pub time-zero : timeStatus now time ≡ 0 → (now ≤ time) × (time ≤ 1000000000000000) × (time ≤ now + 1000000)
   unfolding timeStatus
   time-zero e =
       let a = passed _ 2 _ e in
       let b = passed _ 0 _ (a .1) in
-      (ltb-false time now (b .0), ltb-false 1000000000000000 time (a .0))
+      (ltb-false time now (b .0), ltb-false 1000000000000000 time (a .0), ltb-false (now + 1000000) time (passed _ 1 _ (b .1) .0))
 
 -- ---- none of these is 9
 

@@ -3,6 +3,7 @@ use Prim.Native.Nat.{ℕ, zero, suc, _+_, _-_, _≤_, _<_}
 use mathlib.Core.Bool.{Bool, true, false, cond, not}
 use mathlib.Core.Path.{_≡_, refl, sym, ap, _∙_, subst⁻¹}
 use mathlib.Core.List.{List, [], _∷_}
+use lib.ListN.{replicate}
 use lib.Dec.{ltb, eqb}
 use native.Mathlib.Omega.{arith}
 use native.Mathlib.Decide.{ℕ-discrete}
@@ -14,7 +15,7 @@ use Rattle.base.specs.Refusals.{firstRefusal, given}
 use Rattle.passing.specs.Sequence.{status, refused, answer}
 use Rattle.passing.specs.Time.{dueBy}
 use Rattle.passing.proofs.TimeLaws.{due-true, sound-advance, now-advance, advance-advance}
-use Rattle.passing.proofs.SequenceLaws.{answer-accepted, answer-refused, unsound-answer}
+use Rattle.passing.proofs.SequenceLaws.{answer-accepted, answer-refused, unsound-status, unsound-answer}
 use Rattle.base.proofs.RefusalLaws as refusals
 use Rattle.base.proofs.RefusalLaws.{past, given-zero, given-first, given-second, given-last, given-passed, status-at-most}
 use Rattle.state.specs.declared.State.{State}
@@ -23,17 +24,22 @@ use Rattle.thread.specs.Thread.{isBlocked}
 use Rattle.state.specs.Sound.{soundState}
 use Rattle.state.proofs.SoundLaws.{state-in, state-out}
 use Rattle.ticks.specs.Running.{running, next, idles}
+use Rattle.reports.specs.Tallies.{numbers}
 use Rattle.moments.specs.Moments.{clock, passed}
+use Rattle.moments.specs.Reports.{reported}
 use Rattle.moments.proofs.ChargeLaws as moments
 use Rattle.moments.proofs.MomentLaws.{passing}
 use Rattle.events.specs.Events.{happened}
 use Rattle.events.specs.Answers.{fieldStatus, stateStatusOf, stateStatus, executive}
 use Rattle.events.proofs.EventLaws.{happened-sound}
+use Rattle.events.specs.Reports.{eventNumbers}
 use Rattle.events.proofs.DemandLaws.{field-passed}
+use Rattle.events.proofs.ReportLaws.{refused-tells-zeros}
 use Rattle.answers.specs.Answer.{answered, unread}
 use Rattle.executive.specs.Private.{timeStatus, earlyStatus, soundStatus}
 use Rattle.executive.proofs.StatusLaws.{time-zero, early-small, state-small, early-zero, thread-small}
 use Rattle.executive.proofs.KeptLaws.{status-kept}
+use Rattle.executive.proofs.ToldLaws.{Told, told-start, told-passed}
 
 -- a refusal by the time comes before one by the state
 by-time : (d : ℕ) (a b c : Bool) → (firstRefusal ((a, 3) ∷ (b, 1) ∷ (c, 2) ∷ []) ≡ 0 → ⊥)
@@ -81,20 +87,25 @@ returned-refused n s d =
 pub unsound-is : (s : State) (e : Event) → soundState s ≡ false → unread 9 s ≡ answer executive s e
 unsound-is s e a = sym (unsound-answer executive s a e)
 
+pub unsound-told : (s : State) (e : Event) → soundState s ≡ false → replicate 128 0 ≡ eventNumbers s e
+unsound-told s e a = sym (refused-tells-zeros s e (omega (arith, unsound-status executive s a e)))
+
 -- an event that is accepted from s₀, when time has come to s
 pub record Open (s₀ : State) (e : Event) (s : State) : Type 0 where
   pub sound : soundState s ≡ true
   pub by : s .now ≤ e .time
   pub top : e .time ≤ 1000000000000000
+  pub near : e .time ≤ s .now + 1000000
   pub fields : fieldStatus s e ≡ 0
   pub allows : stateStatus s e ≡ 0
+  pub accepted : status executive s₀ e ≡ 0
   pub same : answered 0 (happened (passed s (e .time)) e) ≡ answer executive s₀ e
 
 -- what holds between the turns of an event's loop
-pub record Stage (s₀ : State) (e : Event) (status : ℕ) (s : State) (done : Bool) : Type 0 where
+pub record Stage (s₀ : State) (e : Event) (status : ℕ) (s : State) (told : List ℕ) (done : Bool) : Type 0 where
   pub sound : soundState s ≡ true
-  pub ended : done ≡ true → answered status s ≡ answer executive s₀ e
-  pub going : done ≡ false → (status ≡ 0) × Open s₀ e s
+  pub ended : done ≡ true → (answered status s ≡ answer executive s₀ e) × (told ≡ eventNumbers s₀ e)
+  pub going : done ≡ false → (status ≡ 0) × Open s₀ e s × Told s₀ (e .time) s told
 
 module _ (s : State) (e : Event) (a : soundState s ≡ true) where
   refused-is : (n : ℕ) → status executive s e ≡ n → 0 < n → n ≤ 8 → answered n s ≡ answer executive s e
@@ -110,7 +121,7 @@ module _ (s : State) (e : Event) (a : soundState s ≡ true) where
       (ap not a) d
 
   module _ (z : early ≡ 0) where
-    times : (s .now ≤ e .time) × (e .time ≤ 1000000000000000)
+    times : (s .now ≤ e .time) × (e .time ≤ 1000000000000000) × (e .time ≤ s .now + 1000000)
     times = time-zero (s .now) (e .time) (early-zero (s .header .n) (s .now) e z .1)
 
     fields : fieldStatus s e ≡ 0
@@ -141,6 +152,9 @@ module _ (s : State) (e : Event) (a : soundState s ≡ true) where
         go (suc x) z = let d : early ≡ 0 → ⊥ = λ y. omega arith in status-early d ∙ sym (given-first early _ d) ∙ sym is
 
     -- refused
+    refusal-told : (k ≡ 0 → ⊥) → replicate 128 0 ≡ eventNumbers s e
+    refusal-told d = sym (refused-tells-zeros s e (omega (arith, judged, d)))
+
     refusal : (k ≡ 0 → ⊥) → answered k s ≡ answer executive s e
     refusal d =
         refused-is k judged (omega (arith, d))
@@ -158,8 +172,10 @@ module _ (s : State) (e : Event) (a : soundState s ≡ true) where
             sound = a;
             by = times (n .0) .0;
             top = times (n .0) .1;
+            near = times (n .0) .2;
             fields = fields (n .0);
             allows = named (n .0) ∙ n .1;
+            accepted = judged ∙ y;
             same = sym (answer-accepted executive s e (judged ∙ y));
           }
 
@@ -191,6 +207,9 @@ module _ (s₀ : State) (e : Event) (s : State) (o : Open s₀ e s) where
     pub at-time : u .now ≡ e .time
     at-time = ap (λ (x : State). x .now) f ∙ now-advance clock passing s (e .time) (o .sound) (o .by) (o .top)
 
+    passes : passed u (e .time) ≡ passed s (e .time)
+    passes = ap (λ (x : State). passed x (e .time)) f ∙ advance-advance clock passing s (e .time) (e .time) (o .sound) (o .by) (omega arith) (o .top)
+
     pub arrives : Open s₀ e u
     arrives =
         let l = later in
@@ -198,12 +217,11 @@ module _ (s₀ : State) (e : Event) (s : State) (o : Open s₀ e s) where
           sound = l .0;
           by = omega (arith, at-time);
           top = o .top;
+          near = omega (arith, at-time);
           fields = l .1;
           allows = l .2;
-          same =
-              ap (λ (x : State). answered 0 (happened x e))
-              (ap (λ (x : State). passed x (e .time)) f ∙ advance-advance clock passing s (e .time) (e .time) (o .sound) (o .by) (omega arith) (o .top))
-              ∙ o .same;
+          accepted = o .accepted;
+          same = ap (λ (x : State). answered 0 (happened x e)) passes ∙ o .same;
         }
 
     -- what the event does there
@@ -221,29 +239,33 @@ module _ (s₀ : State) (e : Event) (s : State) (o : Open s₀ e s) where
 -- the first
 module _ (s : State) (e : Event) (a : soundState s ≡ true) (i : ℕ) (f : e .thread < 32 → i ≡ e .thread) (k : ℕ)
     (is : k ≡ soundStatus (s .header .n) (s .now) (s .word) (isBlocked (threadAt s i)) e) where
-  pub starts : Stage s e k s (not (eqb k 0))
+  pub starts : Stage s e k s (replicate 128 0) (not (eqb k 0))
   starts =
       record {
         sound = a;
-        ended = λ q. refusal s e a i f k is (eqb-false k 0 (not-true (eqb k 0) q));
-        going = λ q. let y = eqb-true k 0 (not-false (eqb k 0) q) in (y, begins s e a i f k is y);
+        ended = λ q. let y = eqb-false k 0 (not-true (eqb k 0) q) in (refusal s e a i f k is y, refusal-told s e a i f k is y);
+        going = λ q.
+            let y = eqb-true k 0 (not-false (eqb k 0) q) in
+            let o = begins s e a i f k is y in
+            (y, o, told-start s (e .time) (state-out s a) (o .by) (o .near) (o .top));
       }
 
 module _ (s₀ : State) (e : Event) (k : ℕ) (s : State) (z : k ≡ 0) (o : Open s₀ e s) (u : State) (f : u ≡ passed s (e .time)) where
   -- time has passed
-  pub carries : (done : Bool) → done ≡ false → Stage s₀ e k u done
-  carries done n =
+  pub carries : (told told' : List ℕ) → Told s₀ (e .time) s told → s .now < e .time → told' ≡ numbers (reported s (e .time)) → (done : Bool) → done ≡ false
+      → Stage s₀ e k u told' done
+  carries told told' h l m done n =
       record {
         sound = arrives s₀ e s o u f .sound;
         ended = λ q. false-true (sym n ∙ q);
-        going = λ q. (z, arrives s₀ e s o u f);
+        going = λ q. (z, arrives s₀ e s o u f, told-passed s₀ s u (e .time) told told' h l (at-time s₀ e s o u f) (passes s₀ e s o u f) m);
       }
 
   -- the event has done what it does
-  pub finishes : (r : State) → r ≡ happened u e → Stage s₀ e k r true
-  finishes r g =
+  pub finishes : (told : List ℕ) → told ≡ eventNumbers s₀ e → (r : State) → r ≡ happened u e → Stage s₀ e k r told true
+  finishes told m r g =
       record {
         sound = done-sound s₀ e s o u f r g;
-        ended = λ q. ap (λ (n : ℕ). answered n r) z ∙ done-is s₀ e s o u f r g;
+        ended = λ q. (ap (λ (n : ℕ). answered n r) z ∙ done-is s₀ e s o u f r g, m);
         going = λ q. false-true (sym q);
       }

@@ -1,13 +1,15 @@
 // What an event does to the state at its time.
 ghost use mathlib.Core.Path.{_≡_};
 ghost use mathlib.Core.Bool.{cond};
-ghost use Prim.Native.Nat.{_<_};
+ghost use Prim.Native.Nat.{_<_, _^_};
 ghost use lib.Dec.{leb};
+ghost use Rattle.sporadic.specs.Rules.{dueOf};
 ghost use Rattle.account.specs.Rules.{Schedulable};
 ghost use Rattle.ready.specs.Word.{occupancy};
 ghost use Rattle.ready.specs.Rules.{Joinable, Leavable, Movable};
 ghost use Rattle.thread.specs.Thread.{withServer};
 ghost use Rattle.events.specs.Events.{becomes, changeOf, shifted};
+ghost use Rattle.events.specs.Reports.{ownBack};
 use super::parts;
 use account::Account;
 use account::Pending;
@@ -68,6 +70,23 @@ pub(super) fn change_of(e: Event, t: Thread, q: Pending) -> Change
     let u = thread::renew(p, t);
     let b = account::new_account(p, e.time);
     change_to(t, a, u, b)
+}
+
+// What the event's own effect brings back to the thread at once: U of a sporadic thread that blocks, where it is due.
+pub(super) fn own_back(e: Event, t: Thread) -> u64
+    requires { ⌜ (e .kind ≡ 1 → 1 < t .parameters .policy → dueOf (t .parameters) (t .server) < 2 ^ 64) ⌝ }
+    ensures { λ r. ⌜ r ≡ ownBack (e .kind) (e .time) t ⌝ }
+{
+    if e.kind != 1 {
+        return 0;
+    }
+    if t.parameters.policy < 2 {
+        return 0;
+    }
+    let p = t.parameters;
+    let v = t.server;
+    let effect = sporadic::block_effect(p, v, false, e.time);
+    effect.back
 }
 
 // The thread with its account's server.

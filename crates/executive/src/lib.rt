@@ -1,19 +1,22 @@
 // The executive: events and their answers. The state goes as a core by value with its slots lent.
 ghost use mathlib.Core.Path.{_≡_};
 ghost use mathlib.Core.Bool.{true};
-ghost use lib.ListN.{length};
+ghost use Prim.Native.Nat.{_*_};
+ghost use lib.ListN.{length, replicate};
 ghost use Rattle.records.specs.Ranges.{mostThreads};
-ghost use Rattle.rows.specs.Rows.{allSlots};
+ghost use Rattle.reports.specs.Tallies.{perThread};
 ghost use Rattle.state.specs.Sound.{soundState};
 ghost use Rattle.state.specs.Updates.{stateOf, whole};
 ghost use Rattle.passing.specs.Sequence.{answer};
 ghost use Rattle.events.specs.Answers.{executive};
+ghost use Rattle.events.specs.Reports.{eventNumbers};
 ghost use Rattle.answers.specs.Answer.{answerOf};
 use answers::Answer;
 use ready::LIST_BYTES;
 use records::Event;
 use records::Header;
 use records::THREADS;
+use reports::NUMBERS;
 use rows::Slots;
 use state::Core;
 use thread::Thread;
@@ -36,12 +39,15 @@ fn tested<'a>(
     lists: &'a [u8; LIST_BYTES],
 ) -> bool
     requires { ⌜ (known ≡ true → soundState (stateOf header time idle word threads (now counts) (now dues) (now amounts) (now lists)) ≡ true)
-        × (length (now counts) ≡ mostThreads) × (length (now dues) ≡ allSlots) × (length (now amounts) ≡ allSlots) ⌝ }
+        × (length (now counts) ≡ mostThreads) ⌝ }
     ensures { λ r. ⌜ r ≡ soundState (stateOf header time idle word threads (now (counts .entry)) (now (dues .entry)) (now (amounts .entry)) (now (lists .entry))) ⌝ }
 {
     if known {
         return true;
     }
+    // lent as slices, so that their lengths are known
+    rows::slots(dues);
+    rows::slots(amounts);
     state::sound_parts(
         header,
         time,
@@ -55,15 +61,34 @@ fn tested<'a>(
     )
 }
 
-// An event for a state that is changed in place: each call that took the core would copy it. The last turn of the loop
-// gives the answer; the turns before it bring the state to the event's time and do what the event does.
-fn answer_event(mut s: Core, dues: &mut Slots, amounts: &mut Slots, e: Event, known: bool) -> Answer
-    requires { ⌜ (known ≡ true → soundState (whole s (now dues) (now amounts)) ≡ true) ⌝ }
-    ensures { λ r. ⌜ answerOf r (now (dues .exit)) (now (amounts .exit)) ≡ answer executive (whole s (now (dues .entry)) (now (amounts .entry))) e ⌝ }
+// The numbers are zeros, whatever they held; where that is known, nothing is written.
+fn clear(known: bool, told: &mut [u64; NUMBERS])
+    requires { ⌜ (known ≡ true → now told ≡ replicate (mostThreads * perThread) 0) ⌝ }
+    ensures { λ _. ⌜ now (told .exit) ≡ replicate (mostThreads * perThread) 0 ⌝ }
 {
-    // lent as slices, so that their lengths are known
-    rows::slots(dues);
-    rows::slots(amounts);
+    if known {
+        return;
+    }
+    *told = [0u64; NUMBERS];
+}
+
+// An event for a state that is changed in place: each call that took the core would copy it, so it is copied only where a
+// moment falls up to the event. The last turn of the loop gives the answer; the turns before it bring the state to the
+// event's time and do what the event does.
+fn answer_event(
+    mut s: Core,
+    dues: &mut Slots,
+    amounts: &mut Slots,
+    told: &mut [u64; NUMBERS],
+    e: Event,
+    known: bool,
+) -> Answer
+    requires { ⌜ (known ≡ true → soundState (whole s (now dues) (now amounts)) ≡ true)
+        × (known ≡ true → now told ≡ replicate (mostThreads * perThread) 0) ⌝ }
+    ensures { λ r. ⌜ answerOf r (now (dues .exit)) (now (amounts .exit)) ≡ answer executive (whole s (now (dues .entry)) (now (amounts .entry))) e ⌝ }
+    ensures numbers { λ _. ⌜ now (told .exit) ≡ eventNumbers (whole s (now (dues .entry)) (now (amounts .entry))) e ⌝ }
+{
+    clear(known, told);
     let header = s.header;
     let threads = s.threads;
     if !tested(
@@ -80,8 +105,7 @@ fn answer_event(mut s: Core, dues: &mut Slots, amounts: &mut Slots, e: Event, kn
     ) {
         return answers::nothing_runs(base::NOT_SOUND, s);
     }
-    let x = parts::index(e.thread);
-    let named = s.threads[x];
+    let named = s.threads[parts::index(e.thread)];
     let status = statuses::status_of(header.n, s.now, s.word, 0 < named.blocked, e);
     let mut done = status != 0;
     loop {
@@ -95,9 +119,8 @@ fn answer_event(mut s: Core, dues: &mut Slots, amounts: &mut Slots, e: Event, kn
             let runs = ticks::running(s.word, &s.lists);
             return answers::answer_of(status, runs, next, s);
         }
-        // the core is copied only where a moment falls up to the event
         if ticks::due_by(next, e.time) {
-            s = moments::advance(s, dues, amounts, e.time);
+            s = moments::advance(s, dues, amounts, told, e.time);
             continue;
         }
         done = true;
@@ -112,6 +135,7 @@ fn answer_event(mut s: Core, dues: &mut Slots, amounts: &mut Slots, e: Event, kn
         let number = changes::concerned(e.kind, e.thread, h);
         let j = base::wide(number);
         let t = s.threads[j];
+        reports::tell_back(told, j, changes::own_back(e, t));
         let q = rows::pending_at(&s.counts, dues, amounts, j);
         let c = changes::change_of(e, t, q);
         let u = c.thread;
@@ -126,17 +150,32 @@ fn answer_event(mut s: Core, dues: &mut Slots, amounts: &mut Slots, e: Event, kn
     }
 }
 
-// An event for a state that is known to be sound.
-pub fn step(c: Core, dues: &mut Slots, amounts: &mut Slots, e: Event) -> Answer
-    requires { ⌜ soundState (whole c (now dues) (now amounts)) ≡ true ⌝ }
+// An event for a state that is known to be sound, with numbers that are zeros.
+pub fn step(
+    c: Core,
+    dues: &mut Slots,
+    amounts: &mut Slots,
+    told: &mut [u64; NUMBERS],
+    e: Event,
+) -> Answer
+    requires { ⌜ (soundState (whole c (now dues) (now amounts)) ≡ true) × (now told ≡ replicate (mostThreads * perThread) 0) ⌝ }
     ensures { λ r. ⌜ answerOf r (now (dues .exit)) (now (amounts .exit)) ≡ answer executive (whole c (now (dues .entry)) (now (amounts .entry))) e ⌝ }
+    ensures numbers { λ _. ⌜ now (told .exit) ≡ eventNumbers (whole c (now (dues .entry)) (now (amounts .entry))) e ⌝ }
 {
-    answer_event(c, dues, amounts, e, true)
+    answer_event(c, dues, amounts, told, e, true)
 }
 
-// An event for any state: one that is not sound is refused with 9 and comes back as it was.
-pub fn event(c: Core, dues: &mut Slots, amounts: &mut Slots, e: Event) -> Answer
+// An event for any state: one that is not sound is refused with 9 and comes back as it was. What happened while time
+// passed is told in the lent numbers, whatever they held.
+pub fn event(
+    c: Core,
+    dues: &mut Slots,
+    amounts: &mut Slots,
+    told: &mut [u64; NUMBERS],
+    e: Event,
+) -> Answer
     ensures { λ r. ⌜ answerOf r (now (dues .exit)) (now (amounts .exit)) ≡ answer executive (whole c (now (dues .entry)) (now (amounts .entry))) e ⌝ }
+    ensures numbers { λ _. ⌜ now (told .exit) ≡ eventNumbers (whole c (now (dues .entry)) (now (amounts .entry))) e ⌝ }
 {
-    answer_event(c, dues, amounts, e, false)
+    answer_event(c, dues, amounts, told, e, false)
 }

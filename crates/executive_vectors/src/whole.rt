@@ -4,6 +4,7 @@ use records::Event;
 use records::Header;
 use records::Parameters;
 use records::THREADS;
+use reports::NUMBERS;
 use rows::SLOTS;
 use state::Core;
 use state::State;
@@ -72,7 +73,8 @@ pub(super) fn open(header: Header, table: [Parameters; THREADS]) -> Answered {
 pub(super) fn event(s: State, e: Event) -> Answered {
     let mut dues = s.dues;
     let mut amounts = s.amounts;
-    let a = executive::event(core_of(s), &mut dues, &mut amounts, e);
+    let mut told = [5u64; NUMBERS];
+    let a = executive::event(core_of(s), &mut dues, &mut amounts, &mut told, e);
     with_slots(a, dues, amounts)
 }
 

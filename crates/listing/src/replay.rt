@@ -14,6 +14,7 @@ ghost use Rattle.listing.specs.Lines.{eventLines, threadLines, idleLine}
 ghost use Rattle.listing.specs.Listing.{listingOf, largest};
 ghost use Rattle.listing.specs.Private.{eventLinesMost, closingMost};
 use super::lines;
+use reports::NUMBERS;
 use rows::SLOTS;
 use rows::Slots;
 use state::Core;
@@ -45,7 +46,8 @@ fn put_events(
     let mut here = at;
     let mut i = 0;
     while i < EVENTS {
-        let step = replay_steps::step_at(s, dues, amounts, file, offset);
+        let mut told = [0u64; NUMBERS];
+        let step = replay_steps::step_at(s, dues, amounts, &mut told, file, offset);
         if !step.more {
             let core = step.answer.core;
             return Ended { at: here, core };

@@ -14,6 +14,7 @@ use Rattle.account.specs.Rules.{pendingAfter, Room, Schedulable, returnFirst}
 use Rattle.sporadic.specs.Rules.{limitEffect, returnEffect}
 use Rattle.sporadic.proofs.EffectLaws.{limit-keeps}
 use Rattle.account.proofs.RoomLaws.{limit-room, return-room}
+use Rattle.reports.specs.Tallies.{tally, plus, returned, numbers, moreOf}
 use Rattle.ready.specs.Lists.{moved}
 use Rattle.ready.specs.Word.{occupancy}
 use Rattle.ready.specs.Rules.{Movable}
@@ -21,7 +22,7 @@ use Rattle.passing.specs.Time.{dueBy}
 use Rattle.passing.proofs.TimeLaws.{due-true, due-false}
 use Rattle.thread.specs.declared.Thread.{Thread}
 use Rattle.state.specs.declared.State.{State}
-use Rattle.rows.specs.Rows.{withSlots}
+use Rattle.rows.specs.Rows.{slotsAt, withSlots}
 use Rattle.state.specs.State.{threadAt, pendingAt, accountAt}
 use Rattle.thread.specs.Thread.{isBlocked, withLeft, withServer}
 use Rattle.rows.proofs.RowLaws.{row-length, row-first}
@@ -32,12 +33,15 @@ use Rattle.due_search.specs.Search.{nextDue}
 use Rattle.due_search.specs.Kept.{NextAfter}
 use Rattle.moments.specs.Changes.{sentTo, withEffect}
 use Rattle.moments.specs.Moments.{quantumEnded, limits, passed}
+use Rattle.moments.specs.Reports.{reported}
 use Rattle.due_search.proofs.DueLaws.{found}
 use Rattle.moments.proofs.InsertLaws.{came, limit-entries}
 use Rattle.moments.proofs.ChargeLaws.{limit-later}
 use Rattle.moments.proofs.TurnLaws.{firstOf, first-later, Going, weight, turn-rest, turn-limit, due-some, not-past, charged-going, turn-due}
 use Rattle.moments.proofs.SeenLaws.{Seen, seen-head, seen-at, seen-small, seen-limit, seen-next, charge-fits, charge-place}
-use Rattle.moments.proofs.StepLaws.{Sendable, limit-not-upper, limit-runs, limit-thread, quantum-movable, quantum-is, limited-present, limited-is, limited-requires, limited-sendable, due-sendable}
+use Rattle.moments.proofs.StepLaws.{Sendable, limit-not-upper, limit-runs, limit-thread, quantum-movable, quantum-is, limited-present, limited-is, limited-requires, limited-sendable, due-sendable, limited-used}
+use Rattle.moments.proofs.ReportBounds.{limit-back, return-back, first-amount}
+use Rattle.moments.proofs.ToldLaws.{Telling, tell-done, tell-quantum, tell-limit, tell-return}
 use Rattle.state.specs.Updates.{stateOf}
 
 -- ticks charged in place: the time, the idle time, and thread i
@@ -70,9 +74,10 @@ put-is : (u : State) (j : ℕ) (e : Effect) (p : Put u j e) → putState u j e p
 put-is u j e p =
     λ y. stateOf (u .header) (u .now) (u .idle) ((p .word-is ∙ ap (λ (k : ℕ). occupancy (sentTo (e .place) k (threadAt u j .parameters) (u .lists))) (p .number-is)) y) (set (u .threads) j (p .thread-is y)) (set (u .counts) j (p .count-is y)) (p .dues-is y) (p .amounts-is y) ((p .lists-is ∙ ap (λ (k : ℕ). sentTo (e .place) k (threadAt u j .parameters) (u .lists)) (p .number-is)) y)
 
--- what holds between turns: time goes on as it did before, and x is the next due
-pub record Between (s₀ : State) (t n : ℕ) (s : State) (x : Due) : Type 0 where
+-- what holds between turns: time goes on as it did before, with what is told so far, and x is the next due
+pub record Between (s₀ : State) (t n : ℕ) (s : State) (told : List ℕ) (x : Due) : Type 0 where
   pub going : Going s₀ t s
+  pub telling : Telling s₀ t s told
   pub size : s .header .n ≡ n
   pub first : x ≡ firstOf s
 
@@ -201,6 +206,9 @@ module _ (r : Turn) where
       charge-place (λ i. s .now - 1) s (g .mid) x p h i l m v (t - s .now) t idle w n fi fw
       ∙ turn-rest s₀ s t g (ap (λ (n : ℕ). dueBy n t) (sym is-next) ∙ b)
 
+  pub last-told : dueBy m t ≡ false → (told : List ℕ) → Telling s₀ t s told → told ≡ numbers (reported s₀ t)
+  last-told b told h = tell-done s₀ s t told g h (ap (λ (n : ℕ). dueBy n t) (sym is-next) ∙ b)
+
   -- ---- a moment that is due by t
 
   module _ (b : dueBy m t ≡ true) where
@@ -303,6 +311,12 @@ module _ (r : Turn) where
 
         pub ended-turn : Going s₀ t ended × (weight t ended < weight t s)
         ended-turn = subst⁻¹ (λ (a : State). Going s₀ t a × (weight t a < weight t s)) ended-is (turn-limit s₀ s t g (some b) (by b) top limited)
+
+        pub ended-told : (told : List ℕ) → Telling s₀ t s told → Telling s₀ t ended (moreOf i (tally 0 1 0 0) told)
+        ended-told told y =
+            subst⁻¹ (λ (n : ℕ). Telling s₀ t ended (moreOf n (tally 0 1 0 0) told)) at-head
+            (subst⁻¹ (λ (a : State). Telling s₀ t a (moreOf (head s) (tally 0 1 0 0) told)) ended-is
+            (tell-quantum s₀ s t told g y (some b) (by b) top limited (omega (arith, at-small, at-head)) (sym policy-is ∙ z)))
 
     -- ---- a limit or what is due
 
@@ -437,3 +451,64 @@ module _ (r : Turn) where
           subst₂ (Known y) (sym (p .count-is)) (sym (p .dues-is))
           (limited-known (sym f ∙ q) e
           (ap (λ (x : Effect). x .first) (h ∙ cond-true a _ _ q) ∙ limit-keeps m (threadAt u j .parameters) (threadAt u j .server) false) y)
+
+      -- ---- what is told of it
+
+      abbrev limitOn : State → ℕ → Effect
+      limitOn y n = limitEffect (y .now) false (threadAt y n .parameters) (threadAt y n .server)
+
+      abbrev returnOn : State → ℕ → Effect
+      returnOn y n = returnFirst (y .now) (isBlocked (threadAt y n)) (threadAt y n .parameters) (accountAt y n)
+
+      -- a limit, and what came back at once
+      module _ (a : Bool) (f : a ≡ eqb m l) (e : Effect) (h : e ≡ effectBy a) (q : a ≡ true) where
+        at-limit : eqb m l ≡ true
+        at-limit = sym f ∙ q
+
+        is-limit-on : e ≡ limitOn u j
+        is-limit-on = h ∙ cond-true a _ _ q
+
+        pub limit-small : e .back ≤ 1000000000
+        limit-small =
+            omega (
+              arith,
+              ap (λ (x : Effect). x .back) is-limit-on,
+              limit-back m (threadAt u j .parameters) (threadAt u j .server) false,
+              ap₂ (λ (y : State) (n : ℕ). threadAt y n .server .used) charged-is (j-head at-limit),
+              limited-used (λ i. s .now - 1) s (g .mid) (some b) (limited at-limit) (later b) (not-rr at-limit),
+            )
+
+        pub limit-told : (p : Put u j e) (told : List ℕ) → Telling s₀ t s told → Telling s₀ t (putState u j e p) (moreOf j (plus (tally 1 0 0 0) (returned e)) told)
+        limit-told p told y =
+            subst⁻¹ (λ (v : State). Telling s₀ t v (moreOf j (plus (tally 1 0 0 0) (returned e)) told)) (put-is u j e p)
+            (subst⁻¹ (λ (x : Effect). Telling s₀ t (withEffect j x u) (moreOf j (plus (tally 1 0 0 0) (returned x)) told)) is-limit-on
+            (subst⁻¹ (λ (v : State). Telling s₀ t (withEffect j (limitOn v j) v) (moreOf j (plus (tally 1 0 0 0) (returned (limitOn v j))) told)) charged-is
+            (subst⁻¹ (λ (n : ℕ). Telling s₀ t (withEffect n (limitOn c n) c) (moreOf n (plus (tally 1 0 0 0) (returned (limitOn c n))) told)) (j-head at-limit)
+            (subst⁻¹ (λ (v : State). Telling s₀ t v (moreOf (head s) (plus (tally 1 0 0 0) (returned (limitOn c (head s)))) told))
+            (limited-is (λ i. s .now - 1) s (g .mid) (some b) (limited at-limit) (later b) (not-rr at-limit))
+            (tell-limit s₀ s t told g y (some b) (by b) top (limited at-limit) (omega (arith, at-small, at-head at-limit)) (not-rr at-limit))))))
+
+      -- what was due
+      module _ (a : Bool) (f : a ≡ eqb m l) (e : Effect) (h : e ≡ effectBy a) (q : a ≡ false) where
+        no-limit : eqb m l ≡ false
+        no-limit = sym f ∙ q
+
+        is-return-on : e ≡ returnOn u j
+        is-return-on = h ∙ rule-is a f ∙ cond-false (eqb m l) _ _ no-limit
+
+        pub return-small : e .back ≤ 1000000000
+        return-small =
+            omega (
+              arith,
+              ap (λ (x : Effect). x .back) is-return-on,
+              return-back m (threadAt u j .parameters) (threadAt u j .server) (isBlocked (threadAt u j)) (getD (s .counts) j 0) (getD (slotsAt j (s .amounts)) 0 0) 1000000000
+                  (first-amount (λ i. c .now - 1) c (goes no-limit .mid) j number-small (omega (arith, here no-limit .1, ap (λ (n : ℕ). getD (s .counts) n 0) (j-due no-limit)))),
+            )
+
+        pub return-told : (p : Put u j e) (told : List ℕ) → Telling s₀ t s told → Telling s₀ t (putState u j e p) (moreOf j (returned e) told)
+        return-told p told y =
+            subst⁻¹ (λ (v : State). Telling s₀ t v (moreOf j (returned e) told)) (put-is u j e p)
+            (subst⁻¹ (λ (x : Effect). Telling s₀ t (withEffect j x u) (moreOf j (returned x) told)) is-return-on
+            (subst⁻¹ (λ (v : State). Telling s₀ t (withEffect j (returnOn v j) v) (moreOf j (returned (returnOn v j)) told)) charged-is
+            (subst⁻¹ (λ (n : ℕ). Telling s₀ t (withEffect n (returnOn c n) c) (moreOf n (returned (returnOn c n)) told)) (j-due no-limit)
+            (tell-return s₀ s t told g y (some b) (by b) top (unlimited no-limit) (first-small no-limit)))))

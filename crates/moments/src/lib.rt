@@ -1,13 +1,14 @@
 // The passing of time over the executive's state.
 ghost use mathlib.Core.Path.{_≡_};
 ghost use mathlib.Core.Bool.{true, false, cond};
-ghost use Prim.Native.Nat.{_<_, _≤_, _^_};
+ghost use Prim.Native.Nat.{_+_, _*_, _<_, _≤_, _^_};
 ghost use lib.Dec.{eqb};
-ghost use lib.ListN.{length};
-ghost use Rattle.records.specs.Ranges.{mostThreads, lastTime};
+ghost use lib.ListN.{length, replicate};
+ghost use Rattle.records.specs.Ranges.{mostThreads, lastTime, longestStep};
 ghost use Rattle.account.specs.Rules.{Room, slotsAfter};
 ghost use Rattle.sporadic.specs.Rules.{dueOf, limitEffect, returnEffect};
 ghost use Rattle.sporadic.specs.declared.Place.the-variants.{Stays, Low, LowThenUpper, Upper};
+ghost use Rattle.reports.specs.Tallies.{perThread, numbers};
 ghost use Rattle.ready.specs.Lists.{moved};
 ghost use Rattle.ready.specs.Word.{occupancy};
 ghost use Rattle.ready.specs.Rules.{Movable};
@@ -18,10 +19,12 @@ ghost use Rattle.thread.specs.Thread.{isBlocked, withLeft};
 ghost use Rattle.ticks.specs.Running.{earlier};
 ghost use Rattle.moments.specs.Changes.{sentTo};
 ghost use Rattle.moments.specs.Moments.{passed};
+ghost use Rattle.moments.specs.Reports.{reported};
 use account::ENTRIES;
 use base::wide;
 use ready::LIST_BYTES;
 use records::Parameters;
+use reports::NUMBERS;
 use rows::Slots;
 use sporadic::Effect;
 use sporadic::Place;
@@ -131,12 +134,20 @@ fn change_row(xs: &mut Slots, i: usize, first: bool, amount: u64, count: u8, x: 
     rows::write_slot(xs, i, count, x);
 }
 
-// The state at the time t. Each turn charges the ticks up to the next moment and does one thing that happens at it: the
+// The state at the time t, with what is told of the way to it. Each turn charges the ticks up to the next moment and does one thing that happens at it: the
 // limit or the end of the quantum first, then what is due, by thread number. The next turn finds what is still due now.
 // The core is changed in place: a call that took it would copy it.
-pub fn advance(mut s: Core, dues: &mut Slots, amounts: &mut Slots, t: u64) -> Core
-    requires { ⌜ (soundState (whole s (now dues) (now amounts)) ≡ true) × (s .now ≤ t) × (t ≤ lastTime) ⌝ }
+pub fn advance(
+    mut s: Core,
+    dues: &mut Slots,
+    amounts: &mut Slots,
+    told: &mut [u64; NUMBERS],
+    t: u64,
+) -> Core
+    requires { ⌜ (soundState (whole s (now dues) (now amounts)) ≡ true) × (s .now ≤ t) × (t ≤ lastTime) × (t ≤ s .now + longestStep)
+        × (now told ≡ replicate (mostThreads * perThread) 0) ⌝ }
     ensures { λ r. ⌜ whole r (now (dues .exit)) (now (amounts .exit)) ≡ passed (whole s (now (dues .entry)) (now (amounts .entry))) t ⌝ }
+    ensures numbers { λ _. ⌜ now (told .exit) ≡ numbers (reported (whole s (now (dues .entry)) (now (amounts .entry))) t) ⌝ }
 {
     let n = s.header.n as usize;
     let mut x = due_search::next_due(&s.counts, dues, n);
@@ -166,6 +177,7 @@ pub fn advance(mut s: Core, dues: &mut Slots, amounts: &mut Slots, t: u64) -> Co
             s.threads[i] = full;
             let word = s.word;
             s.word = ready::move_to_tail(&mut s.lists, word, h, p, p);
+            reports::tell_quantum(told, i);
             continue;
         }
         s.threads[i] = after;
@@ -180,6 +192,7 @@ pub fn advance(mut s: Core, dues: &mut Slots, amounts: &mut Slots, t: u64) -> Co
         let due = e.due;
         let amount = e.amount;
         let first = e.first;
+        let back = e.back;
         let parameters = w.parameters;
         let word = s.word;
         let number = narrow(j);
@@ -191,10 +204,12 @@ pub fn advance(mut s: Core, dues: &mut Slots, amounts: &mut Slots, t: u64) -> Co
         change_row(dues, j, first, amount, count, due);
         change_row(amounts, j, first, amount, count, amount);
         if limited {
+            reports::tell_limit(told, j, back);
             let d = dues[at];
             x = due_search::after_limit(x, j, pending, d);
             continue;
         }
+        reports::tell_back(told, j, back);
         x = due_search::next_due_from(&s.counts, dues, n, m);
     }
 }

@@ -31,7 +31,7 @@ pub fn blocked(count: u64, seed: u64, seen: &mut Coverage) {
                 s.threads[i].blocked = byte;
                 let mut t = board::State::from(&s);
                 same_soundness(&case, &s, &t);
-                let a = both(&case, "a byte as blocked", &mut s, &mut t, &e, seen);
+                let (a, _) = both(&case, "a byte as blocked", &mut s, &mut t, &e, seen);
                 let expected = if byte == was {
                     status::ACCEPTED
                 } else {

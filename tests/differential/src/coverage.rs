@@ -1,8 +1,9 @@
 //! What a run covered, counted from the model's states and listings. A row of the summary stands
 //! for situations of one sort: how many of them came up, and how often the rarest did.
 
-use model::{status, Answer, Event, State, Thread, MAX_STEP, MAX_TIME, NOBODY, PENDING, THREADS};
-use model::{BLOCK, RR, SET, SPORADIC, WAKE, YIELD};
+use crate::told;
+use model::{status, Answer, Event, State, Thread, Told, BLOCK, MAX_STEP, MAX_TIME, NOBODY};
+use model::{PENDING, RR, SET, SPORADIC, THREADS, WAKE, YIELD};
 use std::cmp::Ordering;
 
 const KINDS: usize = 5;
@@ -77,6 +78,7 @@ pub struct Coverage {
     listed_ticks: [[u64; TICKS_DIGITS]; 3],
     listed_events: Tally,
     listed_refusals: Tally,
+    pub told: told::Seen,
     /// What sorts with rows of their own covered.
     pub others: Vec<Group>,
 }
@@ -84,8 +86,8 @@ pub struct Coverage {
 // ------------------------------------------------------------------- events
 
 impl Coverage {
-    /// An event, its answer, and the states before and after it.
-    pub fn event(&mut self, before: &State, e: &Event, a: &Answer, after: &State) {
+    /// An event, its answer, what it told, and the states before and after it.
+    pub fn event(&mut self, before: &State, e: &Event, (a, told): (&Answer, &Told), after: &State) {
         self.events[(e.kind as usize).min(KINDS)].add(a.status);
         for (k, (here, status)) in bounds(before, e).into_iter().enumerate() {
             self.bounds[k] += (here && a.status == status) as u64;
@@ -95,13 +97,19 @@ impl Coverage {
         }
         self.accepted[before.n as usize - 1][e.kind as usize] += 1;
         let mut s = *before;
-        self.passing(&mut s, e);
-        self.effect(&s, e);
+        let moments = self.passing(&mut s, e);
+        self.effect(&s, e, &moments, told);
         self.reached(after);
     }
 
-    /// Goes to the event's time from moment to moment.
-    fn passing(&mut self, s: &mut State, e: &Event) {
+    /// Goes to the event's time from moment to moment; what they tell.
+    fn passing(&mut self, s: &mut State, e: &Event) -> Told {
+        let mut told = model::NOTHING_TOLD;
+        let mut add = |more: &Told| {
+            for (sum, numbers) in told.iter_mut().zip(more) {
+                *sum += *numbers;
+            }
+        };
         for _ in 0..MOMENTS {
             let next = model::next_moment(s);
             if next == 0 || next > e.time {
@@ -111,9 +119,16 @@ impl Coverage {
             self.charge(s, next - s.now);
             self.moment(s, next);
             self.at_moment[e.kind as usize] += (next == e.time) as u64;
-            model::pass(s, next);
+            let runs = model::running(s) as usize;
+            let none_due = runner(s).is_some_and(|t| t.pending == 0 || t.dues[0] != next);
+            let at = model::pass(s, next);
+            if none_due {
+                self.told.limit(&at[runs]);
+            }
+            add(&at);
         }
-        model::pass(s, e.time);
+        add(&model::pass(s, e.time));
+        told
     }
 
     fn charge(&mut self, s: &State, ticks: u64) {
@@ -169,8 +184,8 @@ impl Coverage {
         self.scheduled[cause][place] += 1;
     }
 
-    /// What an event does at its time.
-    fn effect(&mut self, s: &State, e: &Event) {
+    /// What an event does at its time; what was told of the moments before, and of all.
+    fn effect(&mut self, s: &State, e: &Event, moments: &Told, told: &Told) {
         let i = match e.kind {
             BLOCK | YIELD => model::running(s),
             _ => e.thread,
@@ -187,6 +202,8 @@ impl Coverage {
         if e.kind == BLOCK && t.used > 0 {
             self.schedule(1, t, s.now);
         }
+        self.told
+            .effect(e.kind, t.parameters.policy, moments != told);
     }
 
     /// What the state after an event holds.
@@ -412,6 +429,7 @@ impl Coverage {
     /// The situations of events and files.
     pub fn group(&self) -> Group {
         let mut rows = self.event_rows();
+        rows.extend(self.told.rows());
         rows.extend(self.file_rows());
         Group {
             sorts: &["events", "files", "singles"],

@@ -2,6 +2,7 @@
 
 use crate::case::{cases, Case};
 use crate::coverage::{Coverage, Tally};
+use crate::told::{lent, same_told, stored, with_readings};
 use differential as board;
 use model::random::{Aim, Random};
 use model::{Event, Parameters, State, THREADS};
@@ -23,7 +24,7 @@ pub fn same_answer(
     }
 }
 
-/// One event on both states; the model's answer.
+/// One event on both states; the model's answer and what it told.
 pub fn both(
     case: &Case,
     what: &str,
@@ -31,19 +32,16 @@ pub fn both(
     t: &mut board::State,
     e: &Event,
     seen: &mut Coverage,
-) -> model::Answer {
+) -> (model::Answer, model::Told) {
     let before = *s;
-    let a = model::event(s, e);
-    let b = board::event(t, (*e).into());
-    same_answer(
-        case,
-        what,
-        || format!("{e:?} on {before:?}"),
-        (a, s),
-        (b, t),
-    );
-    seen.event(&before, e, &a, s);
-    a
+    let (a, told) = model::event_told(s, e);
+    let mut numbers = lent(e);
+    let b = board::event(t, &mut numbers, (*e).into());
+    let input = || format!("{e:?} on {before:?}");
+    same_answer(case, what, input, (a, s), (b, t));
+    same_told(case, what, input, &board::told_of(&told), &numbers);
+    seen.event(&before, e, (&a, &told), s);
+    (a, told)
 }
 
 /// One opening by both.
@@ -132,9 +130,12 @@ fn opening(r: &mut Random, aim: Aim, damage: u64) -> (u64, u32, [Parameters; THR
     (start, n, table)
 }
 
-/// Events from openings, until at least `count` events were compared.
+/// The stored numbers; then events from openings, until at least `count` events were compared.
 pub fn sequences(count: u64, seed: u64, seen: &mut Coverage) {
     let mut tally = Tally::default();
+    for case in cases("events", seed).take(count.min(1) as usize) {
+        stored(&case, &mut seen.told);
+    }
     let mut done = 0;
     for case in cases("events", seed) {
         if done >= count {
@@ -149,17 +150,26 @@ pub fn sequences(count: u64, seed: u64, seen: &mut Coverage) {
 /// One opening and the events after it; how many they are.
 fn sequence(case: &Case, tally: &mut Tally, seen: &mut Coverage) -> u64 {
     let r = &mut case.random();
+    // the readings have a stream of their own: which events come doesn't depend on them
+    let readings = &mut Random::new(!r.seed);
     let mut aim = r.aim();
     let (start, n, table) = opening(r, aim, 10);
     let (a, mut s, mut t) = both_open(case, start, n, &table);
     seen.openings.add(a.status);
+    seen.told.begin();
     let length = r.pick(&[5, 20, 50, 100, 300]);
     for done in 1..=length {
         if r.one_in(60) {
             aim = r.aim();
         }
         let e = r.aimed_event(&s, aim, 6);
-        let a = both(case, "a sequence", &mut s, &mut t, &e, seen);
+        let given = t;
+        let (a, told) = both(case, "a sequence", &mut s, &mut t, &e, seen);
+        seen.told.event(&a, &told);
+        if a.status == model::status::ACCEPTED && readings.one_in(3) {
+            let made = (a.into(), &board::told_of(&told), &t);
+            with_readings(case, readings, &given, &e, made, &mut seen.told);
+        }
         tally.add(a.status);
         // from a refused opening every event is refused with 9: one is enough
         if a.status == model::status::UNSOUND {
@@ -201,7 +211,8 @@ pub fn same_soundness(case: &Case, s: &State, t: &board::State) {
     }
 }
 
-/// Single events from made-up states, and the soundness of these.
+/// Single events from made-up states, with and without extra clock readings, and the soundness of
+/// these states.
 pub fn singles(count: u64, seed: u64, seen: &mut Coverage) {
     let mut tally = Tally::default();
     for case in cases("singles", seed).take(count as usize) {
@@ -211,7 +222,12 @@ pub fn singles(count: u64, seed: u64, seen: &mut Coverage) {
         let mut t = board::State::from(&s);
         same_soundness(&case, &s, &t);
         let e = r.aimed_event(&s, aim, 25);
-        let a = both(&case, "a single event", &mut s, &mut t, &e, seen);
+        let given = t;
+        let (a, told) = both(&case, "a single event", &mut s, &mut t, &e, seen);
+        if a.status == model::status::ACCEPTED && r.one_in(3) {
+            let made = (a.into(), &board::told_of(&told), &t);
+            with_readings(&case, r, &given, &e, made, &mut seen.told);
+        }
         tally.add(a.status);
     }
     tally.print("single events");

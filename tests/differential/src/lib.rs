@@ -56,6 +56,14 @@ pub const ROW: usize = THREADS + 1;
 /// The slots of all threads: their dues, or their amounts.
 pub type Slots = [u64; THREADS * PENDING];
 
+/// The numbers of one thread: limits, quanta, replenishments, amounts.
+pub const TOLD: usize = 4;
+
+/// What an event tells of all threads, one after another.
+pub type Told = [u64; THREADS * TOLD];
+
+pub const NOTHING_TOLD: Told = [0; THREADS * TOLD];
+
 /// A state without its slots.
 #[repr(C)]
 #[derive(Clone, Copy, Debug, PartialEq, Eq)]
@@ -203,6 +211,7 @@ mod exported {
             core: *mut Core,
             dues: *mut u64,
             amounts: *mut u64,
+            told: *mut u64,
             e: Event,
         ) -> Reply;
         pub fn thawonlai_open(
@@ -256,13 +265,15 @@ mod exported {
 
 // None of the functions has a `requires`: any values may be handed in.
 
-pub fn event(state: &mut State, e: Event) -> Reply {
+/// What `told` holds before doesn't matter.
+pub fn event(state: &mut State, told: &mut Told, e: Event) -> Reply {
     let State {
         core,
         dues,
         amounts,
     } = state;
-    unsafe { exported::thawonlai_event(core, dues.as_mut_ptr(), amounts.as_mut_ptr(), e) }
+    let (dues, amounts) = (dues.as_mut_ptr(), amounts.as_mut_ptr());
+    unsafe { exported::thawonlai_event(core, dues, amounts, told.as_mut_ptr(), e) }
 }
 
 pub fn open(start: u64, n: u32, table: Table) -> Answer {
@@ -354,6 +365,16 @@ macro_rules! same_parameters {
 same_parameters!(model::Parameters, Parameters);
 same_parameters!(Parameters, model::Parameters);
 
+impl From<model::Answer> for Reply {
+    fn from(a: model::Answer) -> Reply {
+        Reply {
+            status: a.status,
+            running: a.running,
+            next: a.next,
+        }
+    }
+}
+
 impl From<model::Made> for Made {
     fn from(a: model::Made) -> Made {
         Made {
@@ -388,6 +409,29 @@ impl From<model::Verdict> for Checked {
             line,
         }
     }
+}
+
+/// The model's numbers, where the code has them.
+pub fn told_of(told: &model::Told) -> Told {
+    let mut numbers = NOTHING_TOLD;
+    for (to, of) in numbers.chunks_exact_mut(TOLD).zip(told) {
+        to.copy_from_slice(&[of.limits, of.quanta, of.replenishments, of.amounts]);
+    }
+    numbers
+}
+
+/// The code's numbers, as the model has them.
+pub fn counts_of(numbers: &Told) -> model::Told {
+    let mut told = model::NOTHING_TOLD;
+    for (to, of) in told.iter_mut().zip(numbers.chunks_exact(TOLD)) {
+        *to = model::Counts {
+            limits: of[0],
+            quanta: of[1],
+            replenishments: of[2],
+            amounts: of[3],
+        };
+    }
+    told
 }
 
 impl From<model::Event> for Event {

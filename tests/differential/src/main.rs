@@ -12,6 +12,7 @@ mod replays;
 mod searches;
 mod stored;
 mod texts;
+mod told;
 mod writes;
 
 use coverage::Coverage;

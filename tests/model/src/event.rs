@@ -2,6 +2,7 @@
 //! Status numbers). Nothing is remembered from one step to the next but the
 //! state: who runs and what comes next are looked up anew.
 
+use crate::counts::{Told, NOTHING_TOLD};
 use crate::state::{assigned, in_range, sound, upper, Parameters, State, Thread};
 use crate::{status, BLOCK, CLOCK, MAX_STEP, MAX_TIME, NOBODY, PENDING, RR, SET, SPORADIC};
 use crate::{THREADS, WAKE, YIELD};
@@ -84,21 +85,27 @@ fn opened(start: u64, n: u32, table: &[Parameters; THREADS]) -> Result<State, u8
 /// One event on any state. 01 Status 19: a refused one leaves the given state,
 /// time included.
 pub fn event(s: &mut State, e: &Event) -> Answer {
+    event_told(s, e).0
+}
+
+/// The same, and 02 E3 2: what happened to each thread in the moments before the
+/// event and in its own effect. 02 E3 5: a refused event reports zeros.
+pub fn event_told(s: &mut State, e: &Event) -> (Answer, Told) {
     if !sound(s) {
-        return nothing(status::UNSOUND);
+        return (nothing(status::UNSOUND), NOTHING_TOLD);
     }
     match after(s, e) {
-        Ok(new) => {
+        Ok((new, told)) => {
             *s = new;
-            answer(s, status::ACCEPTED)
+            (answer(s, status::ACCEPTED), told)
         }
-        Err(status) => answer(s, status),
+        Err(status) => (answer(s, status), NOTHING_TOLD),
     }
 }
 
-/// The state after an event, or its refusal. 01 Status 15: 4, 5, 6, 3, 1, 2; then
-/// time passes, and 7 and 8 are judged at the event's time.
-fn after(given: &State, e: &Event) -> Result<State, u8> {
+/// The state after an event and what happened, or its refusal. 01 Status 15: 4, 5,
+/// 6, 3, 1, 2; then time passes, and 7 and 8 are judged at the event's time.
+fn after(given: &State, e: &Event) -> Result<(State, Told), u8> {
     if e.kind > SET {
         return Err(status::KIND);
     }
@@ -121,33 +128,34 @@ fn after(given: &State, e: &Event) -> Result<State, u8> {
         return Err(status::FAR);
     }
     let mut s = *given;
-    pass(&mut s, e.time);
+    let mut told = pass(&mut s, e.time);
     let runs = running(&s);
     let i = e.thread as usize;
     match e.kind {
         BLOCK | YIELD if runs == NOBODY => return Err(status::NOTHING_RUNS),
         WAKE if s.threads[i].runnable() => return Err(status::NOT_BLOCKED),
-        BLOCK => block(&mut s, runs as usize),
+        BLOCK => block(&mut s, runs as usize, &mut told),
         YIELD => yield_(&mut s, runs as usize),
         WAKE => wake(&mut s, i),
         SET => set(&mut s, i, &e.parameters),
         CLOCK => {}
         _ => unreachable!("a kind above 4 is refused"),
     }
-    Ok(s)
+    Ok((s, told))
 }
 
 /// 01 Events 3: the running thread leaves its list; if sporadic, U is scheduled.
-fn block(s: &mut State, i: usize) {
+fn block(s: &mut State, i: usize, told: &mut Told) {
     leave(s, i);
     s.threads[i].blocked = 1;
     if s.threads[i].parameters.policy == SPORADIC {
-        schedule(s, i);
+        schedule(s, i, told);
     }
 }
 
 /// 01 Events 4: the running thread becomes the tail of its list; RR gets a full
-/// quantum; activation time unchanged.
+/// quantum; activation time unchanged. No quantum ended: a refill here, at a wake
+/// or at a set tells nothing (ours).
 fn yield_(s: &mut State, i: usize) {
     let own = assigned(&s.threads[i]);
     leave(s, i);
@@ -225,20 +233,22 @@ fn moments(s: &State) -> impl Iterator<Item = u64> + '_ {
 }
 
 /// 01 Passing 1 to 8: moments up to and including a time, and what is left of the
-/// way to it. For sound states.
-pub fn pass(s: &mut State, time: u64) {
+/// way to it; what happened at them. For sound states.
+pub fn pass(s: &mut State, time: u64) -> Told {
+    let mut told = NOTHING_TOLD;
     while let Some(moment) = moments(s).min().filter(|&m| m <= time) {
         let charged = elapse(s, moment);
         // 1. Limit reached, or quantum 0.
         if let Some(i) = charged {
-            limit(s, i);
+            limit(s, i, &mut told);
         }
         // 2. Replenishments due now, by thread number.
         for i in 0..s.n as usize {
-            replenish_due(s, i);
+            replenish_due(s, i, &mut told);
         }
     }
     elapse(s, time);
+    told
 }
 
 /// 01 Passing 3 and 4: the elapsed ticks are added to the running thread's total
@@ -268,14 +278,16 @@ fn elapse(s: &mut State, to: u64) -> Option<usize> {
 /// 01 Passing 6 and 7, of the thread that was charged. Limit reached (capacity 0):
 /// the thread becomes the tail of its low list and U is scheduled. Or quantum 0:
 /// the thread becomes the tail of its list with a full quantum.
-fn limit(s: &mut State, i: usize) {
+fn limit(s: &mut State, i: usize, told: &mut Told) {
     let t = &s.threads[i];
     let p = t.parameters;
     if p.policy == SPORADIC && t.capacity == 0 {
+        told[i].limits += 1;
         leave(s, i);
         join(s, i, p.low);
-        schedule(s, i);
+        schedule(s, i, told);
     } else if p.policy == RR && t.quantum == 0 {
+        told[i].quanta += 1;
         leave(s, i);
         join(s, i, p.priority);
         refill(&mut s.threads[i]);
@@ -283,7 +295,7 @@ fn limit(s: &mut State, i: usize) {
 }
 
 /// 01 Passing 8: a thread's replenishments that are due now.
-fn replenish_due(s: &mut State, i: usize) {
+fn replenish_due(s: &mut State, i: usize, told: &mut Told) {
     while s.threads[i].pending > 0 && s.threads[i].dues[0] == s.now {
         let t = &mut s.threads[i];
         // Whether it was at low is judged with this replenishment still pending.
@@ -294,14 +306,14 @@ fn replenish_due(s: &mut State, i: usize) {
         t.dues[PENDING - 1] = 0;
         t.amounts[PENDING - 1] = 0;
         t.pending -= 1;
-        replenish(s, i, amount, was_low);
+        replenish(s, i, amount, was_low, told);
     }
 }
 
 /// 01 Passing 9 to 11: amount = U, due = activation time + period, U becomes 0.
 /// Amount 0 schedules nothing. Due at or before now: carried out at once and
 /// never pending.
-fn schedule(s: &mut State, i: usize) {
+fn schedule(s: &mut State, i: usize, told: &mut Told) {
     let t = &mut s.threads[i];
     let amount = t.used;
     let due = t.activation + t.parameters.period;
@@ -311,7 +323,7 @@ fn schedule(s: &mut State, i: usize) {
     }
     if due <= s.now {
         let was_low = !upper(t);
-        replenish(s, i, amount, was_low);
+        replenish(s, i, amount, was_low, told);
     } else {
         t.dues[t.pending as usize] = due;
         t.amounts[t.pending as usize] = amount;
@@ -322,8 +334,11 @@ fn schedule(s: &mut State, i: usize) {
 /// 01 Passing 13 to 15: capacity + amount, held at budget. A runnable thread that
 /// was at low becomes the tail of its upper list and its activation time becomes
 /// now. One already at its upper priority doesn't move and keeps its activation
-/// time.
-fn replenish(s: &mut State, i: usize, amount: u64, was_low: bool) {
+/// time. What is told is the entry's amount, also where capacity is held at budget
+/// (ours).
+fn replenish(s: &mut State, i: usize, amount: u64, was_low: bool, told: &mut Told) {
+    told[i].replenishments += 1;
+    told[i].amounts += amount;
     let t = &mut s.threads[i];
     t.capacity = (t.capacity + amount).min(t.parameters.budget);
     if t.runnable() && was_low {

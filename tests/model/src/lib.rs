@@ -6,10 +6,12 @@
 //!
 //! One processor; SCHED_FIFO, SCHED_RR and SCHED_SPORADIC; the state, the events, the
 //! trace file's reader and writer, the listing of a replay and the check of another
-//! one, traces as text, and the search for the next due.
+//! one, traces as text, the search for the next due, and what happened while time
+//! passed.
 #![forbid(unsafe_code)]
 
 mod check;
+mod counts;
 mod event;
 pub mod random;
 mod search;
@@ -18,7 +20,8 @@ mod text;
 mod trace;
 
 pub use check::{verdict, Verdict};
-pub use event::{event, next_moment, open, pass, running, Answer, Event};
+pub use counts::{counts, counts_text, Counts, Told, NOTHING_TOLD};
+pub use event::{event, event_told, next_moment, open, pass, running, Answer, Event};
 pub use search::{next_due, Dues};
 pub use state::{assigned, in_range, sound, upper, List, Parameters, State, Thread};
 pub use text::{from_text, to_text, Made};

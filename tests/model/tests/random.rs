@@ -37,11 +37,12 @@ fn run_times(s: &State) -> u64 {
 }
 
 /// Demand 3, and with it: soundness after each event, run times + idle = now -
-/// start, and a refused event changes nothing.
+/// start, a refused event changes nothing and tells zeros, and the numbers of the
+/// extra readings and of their event add up to what it had alone (02 E3 4).
 #[test]
 fn extra_clock_readings_change_no_answer() {
     let mut r = Random::new(seed(1));
-    let (mut events, mut accepted, mut extra) = (0u64, 0u64, 0u64);
+    let (mut events, mut accepted, mut extra, mut split) = (0u64, 0u64, 0u64, 0u64);
     let mut by_status = [0u64; 14];
     for run in 0..runs(3_000) {
         let mut first = first_state(&mut r);
@@ -50,7 +51,13 @@ fn extra_clock_readings_change_no_answer() {
         for _ in 0..r.between(1, 60) {
             let e = r.event(&first, 8);
             let before = first;
-            let a = event(&mut first, &e);
+            let (a, alone) = event_told(&mut first, &e);
+            let mut sums = NOTHING_TOLD;
+            let mut add = |told: Told| {
+                for (sum, numbers) in sums.iter_mut().zip(told) {
+                    *sum += numbers;
+                }
+            };
             events += 1;
             by_status[a.status as usize] += 1;
             assert!(sound(&first), "run {run}: {e:?} leaves {first:?}");
@@ -71,7 +78,9 @@ fn extra_clock_readings_change_no_answer() {
                         time,
                         ..Event::default()
                     };
-                    assert_eq!(event(&mut second, &clock).status, 0);
+                    let (reading, told) = event_told(&mut second, &clock);
+                    assert_eq!(reading.status, 0);
+                    add(told);
                     extra += 1;
                     time = if every_tick {
                         time + 1
@@ -81,16 +90,19 @@ fn extra_clock_readings_change_no_answer() {
                 }
             } else {
                 assert_eq!(first, before, "run {run}: refused {e:?}");
+                assert_eq!(alone, NOTHING_TOLD, "run {run}: refused {e:?}");
             }
-            assert_eq!(
-                event(&mut second, &e),
-                a,
-                "run {run}: {e:?} from {before:?}"
-            );
+            let (again, told) = event_told(&mut second, &e);
+            assert_eq!(again, a, "run {run}: {e:?} from {before:?}");
+            add(told);
+            assert_eq!(sums, alone, "run {run}: {e:?} from {before:?}");
+            split += (told != alone) as u64;
             assert_eq!(second, first, "run {run}: {e:?} from {before:?}");
         }
     }
     println!("{events} events, {accepted} accepted, {extra} extra clock readings");
+    println!("{split} events whose numbers the readings took a part of");
+    assert!(split > 0);
     println!("by status {by_status:?}");
 }
 

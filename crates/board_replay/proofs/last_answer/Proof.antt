@@ -31,7 +31,7 @@ abbrev Taken : Type 0
 Taken = tie.After-step-at Inv-loop μ-loop
 
 abbrev turn : Taken → Here
-turn c = c .before .before .before .before .before
+turn c = c .before .before .before .before .before .before
 
 abbrev started : Here → tie.Start Inv-loop μ-loop
 started c = c .before .before
@@ -49,7 +49,7 @@ sub-left : tie.Need-sub-left Inv-loop μ-loop
 sub-left c = omega arith
 
 step-at-requires : tie.Need-step-at-requires Inv-loop μ-loop
-step-at-requires c κs = c .before .before .before .before .loop .inv .0
+step-at-requires c κs = (c .before .before .before .before .before .loop .inv .0, refl)
 
 returns : tie.Need-returns Inv-loop μ-loop
 returns c =
@@ -72,7 +72,7 @@ loop-again c =
     let a = started h .args in
     let k : h .loop .left ≡ suc (h .loop .left - 1) = omega arith in
     let g = goes-on (answerHere h .state) (a .file .now) (h .loop .offset) (h .loop .left - 1) (step t) (t .step-at .ensures .0) (not-false _ (c .before .if1 .left)) in
-    (t .step-at .ensures .1, sym (last-next (answerHere h) (answerHere h .state) (a .file .now) (h .loop .offset) (h .loop .left) (h .loop .left - 1) (step t) k g) ∙ h .loop .inv .1)
+    (t .step-at .ensures .1 .0, sym (last-next (answerHere h) (answerHere h .state) (a .file .now) (h .loop .offset) (h .loop .left) (h .loop .left - 1) (step t) k g) ∙ h .loop .inv .1)
 
 returns-2 : tie.Need-returns-2 Inv-loop μ-loop
 returns-2 c =

@@ -1,15 +1,17 @@
 -- `executive::answer_event` meets its contract: each turn either passes time, does what the event does, or gives the answer.
 use borrow.Author.Needs.{needs}
 use Prim.Native.Nat.{ℕ, suc, _-_, _<_}
-use mathlib.Core.Bool.{true, false, cond}
-use mathlib.Core.Path.{_≡_, refl, sym, ap, _∙_}
+use mathlib.Core.Bool.{true, false, cond, not}
+use mathlib.Core.Path.{_≡_, refl, sym, ap, _∙_, subst⁻¹}
 use native.Mathlib.Omega.{arith}
 use lib.Dec.{eqb}
+use mathlib.Core.List.{List}
 use lib.ListN.{set}
 use borrow.Author.Tests.{not-true, not-false}
 use Rattle.base.proofs.TestLaws.{tests}
 use Rattle.records.specs.declared.Event.{Event}
 use Rattle.passing.specs.Time.{dueBy}
+use Rattle.reports.specs.Tallies.{backTally, moreOf}
 use Rattle.state.specs.declared.State.{State}
 use Rattle.state.specs.State.{threadAt}
 use Rattle.state.specs.Sound.{soundState}
@@ -22,21 +24,23 @@ use Rattle.moments.proofs.SeenLaws.{seen-held}
 use Rattle.moments.proofs.AdvanceLaws.{Turn, is-next, rest-fits, rest-idle, last}
 use Rattle.moments.proofs.AnswerLaws.{head-below, running-held, next-requires}
 use Rattle.events.specs.Events.{happened}
+use Rattle.events.specs.Reports.{eventNumbers}
 use Rattle.answers.specs.declared.Answer.{Answer}
 use Rattle.answers.specs.Answer.{answerOf}
 use Rattle.answers.proofs.AnswerLaws.{answered-is}
 use Rattle.executive.proofs.RequiresLaws.{dues-length, amounts-length}
-use Rattle.executive.proofs.StepLaws.{Open, Stage, unsound-is, arrives, at-time, still-due, turn-falls, turn-ends, starts, carries, finishes}
+use Rattle.executive.proofs.ToldLaws.{Told, told-clock, own-requires, told-own}
+use Rattle.executive.proofs.StepLaws.{Open, Stage, unsound-is, unsound-told, arrives, at-time, still-due, turn-falls, turn-ends, starts, carries, finishes}
 use Rattle.executive.proofs.DoneLaws.{Concerns, happened-none, who-is, change-small, change-requires, change-is}
 use Rattle.executive.proofs.DoneLaws as laws
 use Rattle.executive.proofs.answer_event.Statement.{statement}
 use Rattle.executive.proofs.answer_event.Tie as tie
 
 abbrev Inv-loop : tie.InvT-loop
-Inv-loop dues₀ amounts₀ e known s₀ x status done₀ dues amounts s done = Stage (whole s₀ dues₀ amounts₀) e status (whole s dues amounts) done
+Inv-loop dues₀ amounts₀ told₀ e known s₀ status done₀ dues amounts told s done = Stage (whole s₀ dues₀ amounts₀) e status (whole s dues amounts) told done
 
 abbrev μ-loop : tie.MeasureT-loop
-μ-loop dues₀ amounts₀ e known s₀ x status done₀ dues amounts s done = cond done 0 (suc (e .time - s .now))
+μ-loop dues₀ amounts₀ told₀ e known s₀ status done₀ dues amounts told s done = cond done 0 (suc (e .time - s .now))
 
 -- ---- the stages, each with the way to an earlier one
 
@@ -88,8 +92,15 @@ Found = tie.After-pending-at Inv-loop μ-loop
 abbrev Put : Type 0
 Put = tie.After-served Inv-loop μ-loop
 
+-- the numbers are zeros
+abbrev Cleared : Type 0
+Cleared = tie.After-clear Inv-loop μ-loop
+
+abbrev cleared : Tested → Cleared
+cleared c = c .before .before .before .before .before .before .before .before
+
 abbrev given : Tested → Given
-given c = c .before .before .before .before .before .before .before .before .before .before .before .before .before .before
+given c = cleared c .before .before
 
 abbrev checked : Judged → Tested
 checked c = c .before .before .before .before .before
@@ -115,8 +126,12 @@ rest c = c .before .before .before
 abbrev charged : Named → Charged
 charged c = c .before .before .before .before
 
+-- what its effect brings back is told
+abbrev hears : Found → tie.After-tell-back Inv-loop μ-loop
+hears c = c .before .before .before .before .before
+
 abbrev named : Found → Named
-named c = c .before .before .before .before .before .before
+named c = hears c .before .before .before .before
 
 abbrev found : Put → Found
 found c = c .before .before .before .before .before
@@ -137,14 +152,11 @@ sound c = state-out (stateHere c) (c .loop .inv .sound)
 
 -- ---- before the first turn
 
-slots-requires : tie.Need-slots-requires Inv-loop μ-loop
-slots-requires c κs = tt
-
-slots-requires-2 : tie.Need-slots-requires-2 Inv-loop μ-loop
-slots-requires-2 c κs = tt
+clear-requires : tie.Need-clear-requires Inv-loop μ-loop
+clear-requires c κs = c .before .pre .1
 
 tested-requires : tie.Need-tested-requires Inv-loop μ-loop
-tested-requires c κs = (c .before .before .before .before .before .before .before .before .before .before .before .before .before .pre, search needs, search needs, search needs)
+tested-requires c κs = (c .before .before .before .before .before .before .before .before .before .pre .0, search needs)
 
 nothing-runs-requires : tie.Need-nothing-runs-requires Inv-loop μ-loop
 nothing-runs-requires c κs = tt
@@ -152,8 +164,10 @@ nothing-runs-requires c κs = tt
 returns : tie.Need-returns Inv-loop μ-loop
 returns c =
     let k = c .before .before in
-    ap (λ (r : Answer). answerOf r (given k .args .dues .now) (given k .args .amounts .now)) (c .nothing-runs .ensures)
-    ∙ unsound-is (stateGiven (given k)) (given k .args .e) (sym (k .tested .ensures) ∙ not-true _ (c .before .if1 .taken))
+    let f = sym (k .tested .ensures) ∙ not-true _ (c .before .if1 .taken) in (
+      ap (λ (r : Answer). answerOf r (given k .args .dues .now) (given k .args .amounts .now)) (c .nothing-runs .ensures) ∙ unsound-is (stateGiven (given k)) (given k .args .e) f,
+      cleared k .clear .ensures ∙ unsound-told (stateGiven (given k)) (given k .args .e) f,
+    )
 
 index-requires : tie.Need-index-requires Inv-loop μ-loop
 index-requires c κs = tt
@@ -171,7 +185,8 @@ loop-holds : tie.Need-loop-holds Inv-loop μ-loop
 loop-holds c =
     let k = checked c in
     let x = c .before .before .before in
-    starts (stateGiven (given k)) (given k .args .e) (sym (k .tested .ensures) ∙ not-false _ (x .before .if1 .left)) (x .index .result) (x .index .ensures .1) (c .status-of .result) (c .status-of .ensures)
+    subst⁻¹ (λ (told : List ℕ). Stage (stateGiven (given k)) (given k .args .e) (c .status-of .result) (stateGiven (given k)) told (not (eqb (c .status-of .result) 0))) (cleared k .clear .ensures)
+    (starts (stateGiven (given k)) (given k .args .e) (sym (k .tested .ensures) ∙ not-false _ (x .before .if1 .left)) (x .index .result) (x .index .ensures .1) (c .status-of .result) (c .status-of .ensures))
 
 -- ---- a turn
 
@@ -213,9 +228,12 @@ returns-2 c =
     let m = c .before .before .before .before .before in
     let w = topped m in
     let l = begun w in
-    ap (λ (r : Answer). answerOf r (l .loop .dues) (l .loop .amounts)) (c .answer-of .ensures)
-    ∙ answered-is _ (stateHere l) (l .loop .inv .sound) _ _ _ (w .before .before .before .before .highest .ensures) (w .before .head-at .ensures) (w .wide .ensures) _ _ (c .before .running .ensures) (m .next-moment .ensures)
-    ∙ l .loop .inv .ended (c .before .before .before .before .if2 .taken)
+    let f = l .loop .inv .ended (c .before .before .before .before .if2 .taken) in (
+      ap (λ (r : Answer). answerOf r (l .loop .dues) (l .loop .amounts)) (c .answer-of .ensures)
+          ∙ answered-is _ (stateHere l) (l .loop .inv .sound) _ _ _ (w .before .before .before .before .highest .ensures) (w .before .head-at .ensures) (w .wide .ensures) _ _ (c .before .running .ensures) (m .next-moment .ensures)
+          ∙ f .0,
+      f .1,
+    )
 
 due-by-requires : tie.Need-due-by-requires Inv-loop μ-loop
 due-by-requires c κs = tt
@@ -227,6 +245,9 @@ to-come c = here c .loop .inv .going (c .if2 .left) .1
 
 accepted : (c : Still) → here c .before .status-of .result ≡ 0
 accepted c = here c .loop .inv .going (c .if2 .left) .0
+
+telling : (c : Still) → Told (stateGiven (entry (here c))) (eventOf (here c) .time) (stateHere (here c)) (here c .loop .told)
+telling c = here c .loop .inv .going (c .if2 .left) .2
 
 -- what is known once the next moment is
 abbrev turn : (c : Still) → Turn
@@ -255,29 +276,39 @@ turn c =
       };
     }
 
-advance-requires : tie.Need-advance-requires Inv-loop μ-loop
-advance-requires c κs = let o = to-come (c .before .before .before .before) in (o .sound, o .by, o .top)
-
 is-due : (c : tie.Then3 Inv-loop μ-loop) → dueBy (next (stateHere (here (c .before .before)))) (eventOf (here (c .before .before)) .time) ≡ true
 is-due c = ap (λ (m : ℕ). dueBy m (eventOf (here (c .before .before)) .time)) (sym (is-next (turn (c .before .before)))) ∙ sym (c .before .due-by .ensures) ∙ c .if3 .taken
 
+-- so the event's time is still to come
+before : (c : tie.Then3 Inv-loop μ-loop) → stateHere (here (c .before .before)) .now < eventOf (here (c .before .before)) .time
+before c = let b = c .before .before in still-due _ (eventOf (here b)) (stateHere (here b)) (to-come b) (is-due c)
+
+advance-requires : tie.Need-advance-requires Inv-loop μ-loop
+advance-requires c κs =
+    let d = c .before .before .before in
+    let o = to-come (d .before .before) in (o .sound, o .by, o .top, o .near, telling (d .before .before) .early (before d) .1)
+
 loop-less : tie.Need-loop-less Inv-loop μ-loop
 loop-less c =
-    let d = c .before .before .before in
+    let d = c .before .before .before .before in
     let b = d .before .before in
     let e = eventOf (here b) in
     let s = stateHere (here b) in
-    turn-falls _ (e .time) _ _ (b .if2 .left) (still-due _ e s (to-come b) (is-due d)) (at-time _ e s (to-come b) _ (c .advance .ensures))
+    turn-falls _ (e .time) _ _ (b .if2 .left) (before d) (at-time _ e s (to-come b) _ (c .advance .ensures .0))
 
 loop-again : tie.Need-loop-again Inv-loop μ-loop
 loop-again c =
-    let b = c .before .before .before .before .before in
-    carries _ (eventOf (here b)) _ (stateHere (here b)) (accepted b) (to-come b) _ (c .advance .ensures) _ (b .if2 .left)
+    let d = c .before .before .before .before in
+    let b = d .before .before in
+    carries _ (eventOf (here b)) _ (stateHere (here b)) (accepted b) (to-come b) _ (c .advance .ensures .0) _ _ (telling b) (before d) (c .advance .ensures .1) _ (b .if2 .left)
 
 -- ---- no moment is due by the event's time
 
 not-due : (c : Rest) → dueBy (turn (still c) .moment) (turn (still c) .to) ≡ false
 not-due c = sym (c .before .due-by .ensures) ∙ c .if3 .left
+
+none-due : (c : Rest) → dueBy (next (stateHere (here (still c)))) (eventOf (here (still c)) .time) ≡ false
+none-due c = ap (λ (m : ℕ). dueBy m (turn (still c) .to)) (sym (is-next (turn (still c)))) ∙ not-due c
 
 sub-k : tie.Need-sub-k Inv-loop μ-loop
 sub-k c = to-come (still (c .before)) .by
@@ -307,16 +338,19 @@ eventAt c = eventOf (here (still (rest c)))
 has-passed : (c : Charged) → atTime c ≡ passed (stateHere (here (still (rest c)))) (eventAt c .time)
 has-passed c = last (turn (still (rest c))) (not-due (rest c)) (c .charged-idle .result) (c .before .charged-thread .result) (c .charged-idle .ensures) (c .before .charged-thread .ensures)
 
--- and what the event leaves
-finished : (c : Charged) (r : State) → r ≡ happened (atTime c) (eventAt c)
-    → Stage (stateGiven (entry (here (still (rest c))))) (eventAt c) (here (still (rest c)) .before .status-of .result) r true
-finished c r g = let b = still (rest c) in finishes _ (eventAt c) _ (stateHere (here b)) (accepted b) (to-come b) (atTime c) (has-passed c) r g
+-- and what the event leaves, with what it tells
+finished : (c : Charged) (told : List ℕ) → told ≡ eventNumbers (stateGiven (entry (here (still (rest c))))) (eventAt c) → (r : State) → r ≡ happened (atTime c) (eventAt c)
+    → Stage (stateGiven (entry (here (still (rest c))))) (eventAt c) (here (still (rest c)) .before .status-of .result) r told true
+finished c told m r g = let b = still (rest c) in finishes _ (eventAt c) _ (stateHere (here b)) (accepted b) (to-come b) (atTime c) (has-passed c) told m r g
 
 loop-less-2 : tie.Need-loop-less-2 Inv-loop μ-loop
 loop-less-2 c = turn-ends _ _ (still (rest (c .before .before)) .if2 .left)
 
 loop-again-2 : tie.Need-loop-again-2 Inv-loop μ-loop
-loop-again-2 c = let b = c .before .before in finished b (atTime b) (happened-none (atTime b) (eventAt b) (c .if4 .taken))
+loop-again-2 c =
+    let b = c .before .before in
+    let o = still (rest b) in
+    finished b _ (told-clock _ (eventAt b) (to-come o .accepted) _ _ (telling o) (none-due (rest b)) (c .if4 .taken)) (atTime b) (happened-none (atTime b) (eventAt b) (c .if4 .taken))
 
 -- ---- the thread that the event concerns
 
@@ -352,9 +386,38 @@ mul-t c = omega (arith, small c)
 element-copy-out-t : tie.Need-element-copy-out-t Inv-loop μ-loop
 element-copy-out-t c = small c
 
+-- ---- what its effect brings back
+
+own-back-requires : tie.Need-own-back-requires Inv-loop μ-loop
+own-back-requires c κs =
+    let k = c .before .before in
+    λ z l. change-requires (atTime (charged k)) (eventAt (charged k)) _ _ (concerns k) _ refl z l .0
+
+tell-back-requires : tie.Need-tell-back-requires Inv-loop μ-loop
+tell-back-requires c κs =
+    let k = c .before .before .before in
+    let b = charged k in
+    let o = still (rest b) in
+    let v = concerns k in (
+      small k,
+      own-requires _ (eventAt b) (to-come o .accepted) _ _ (telling o) (none-due (rest b)) (atTime b) (has-passed b) refl (k .wide2 .result) (v .there ∙ v .who) (small k)
+          (state-out (atTime b) (v .sound)) (c .own-back .result) (c .own-back .ensures),
+    )
+
+-- all that it tells
+tells : (c : tie.After-tell-back Inv-loop μ-loop)
+    → moreOf (c .before .before .before .before .wide2 .result) (backTally (c .before .own-back .result)) (here (still (rest (charged (c .before .before .before .before)))) .loop .told)
+    ≡ eventNumbers (stateGiven (entry (here (still (rest (charged (c .before .before .before .before))))))) (eventAt (charged (c .before .before .before .before)))
+tells c =
+    let k = c .before .before .before .before in
+    let b = charged k in
+    let o = still (rest b) in
+    let v = concerns k in
+    told-own _ (eventAt b) (to-come o .accepted) _ _ (telling o) (none-due (rest b)) (atTime b) (has-passed b) refl (k .wide2 .result) (v .there ∙ v .who) (small k) _ (c .before .own-back .ensures)
+
 pending-at-requires : tie.Need-pending-at-requires Inv-loop μ-loop
 pending-at-requires c κs =
-    let k = c .before .before .before .before .before in
+    let k = c .before .before .before .before .before .before .before .before in
     let a = concerns k .sound in (small k, dues-length (atTime (charged k)) a, amounts-length (atTime (charged k)) a)
 
 change-of-requires : tie.Need-change-of-requires Inv-loop μ-loop
@@ -393,7 +456,7 @@ loop-again-3 c =
     let w = c .before .before in
     let p = w .before .before .before in
     let k = named (found p) in
-    finished (charged k) _
+    finished (charged k) _ (hears (found p) .tell-back .ensures ∙ tells (hears (found p))) _
     (change-is (atTime (charged k)) (eventAt (charged k)) _ _ (concerns k) _ (found p .pending-at .ensures) _ (p .before .before .before .before .change-of .ensures) _ (p .served .ensures) _ _ _ _ (w .write-pending .ensures .0) (w .write-pending .ensures .1) (c .shift .ensures .0) (c .shift .ensures .1))
 
 pub answer-event-spec : {M : Type 1} → statement M
@@ -402,8 +465,7 @@ answer-event-spec =
     (tie.spec
     Inv-loop
     μ-loop
-    slots-requires
-    slots-requires-2
+    clear-requires
     tested-requires
     nothing-runs-requires
     returns
@@ -437,6 +499,8 @@ answer-event-spec =
     wide-requires-2
     mul-t
     element-copy-out-t
+    own-back-requires
+    tell-back-requires
     pending-at-requires
     change-of-requires
     served-requires

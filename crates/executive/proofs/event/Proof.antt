@@ -6,7 +6,7 @@ use Rattle.executive.proofs.event.Tie as tie
 
 -- nothing is known of the state
 answer-event-requires : tie.Need-answer-event-requires
-answer-event-requires c κs = λ q. false-true q
+answer-event-requires c κs = (λ q. false-true q, λ q. false-true q)
 
 returns : tie.Need-returns
 returns c = search needs

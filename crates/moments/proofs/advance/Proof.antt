@@ -1,7 +1,8 @@
 -- `moments::advance` meets its contract: each turn does one thing that happens, and time goes on from there as it did before.
-use Prim.Native.Nat.{ℕ, _-_, _≤_, _<_}
+use Prim.Native.Nat.{ℕ, _+_, _-_, _≤_, _<_}
 use mathlib.Core.Bool.{Bool, true, false, cond}
 use mathlib.Core.Path.{_≡_, refl, sym, ap, _∙_, subst⁻¹}
+use mathlib.Core.List.{List}
 use lib.ListN.{getD}
 use native.Mathlib.Omega.{arith}
 use lib.Dec.{eqb}
@@ -9,6 +10,7 @@ use borrow.Author.Tests.{eqb-true, not-true, not-false}
 use Rattle.base.proofs.TestLaws.{tests, false-true}
 use Rattle.account.specs.Rules.{Room}
 use Rattle.passing.specs.Time.{dueBy}
+use Rattle.reports.specs.Tallies.{Tellable}
 use Rattle.state.specs.declared.State.{State}
 use Rattle.state.specs.State.{threadAt}
 use Rattle.state.specs.Updates.{whole}
@@ -17,15 +19,16 @@ use Rattle.due_search.specs.Search.{nextDue}
 use Rattle.moments.proofs.TurnLaws.{weight, start}
 use Rattle.moments.proofs.SeenLaws.{seen-held, top-small, thread-fits}
 use Rattle.moments.proofs.StepLaws.{Sendable}
-use Rattle.moments.proofs.AdvanceLaws.{Between, Turn, Ticked, tickedState, Chosen, Acted, Put, rest-fits, rest-idle, last, not-before, moment-fits, moment-idle, ended-movable, ended-turn, number-small, limit-requires, acts, room, limit-due, put-going, put-falls, put-later}
+use Rattle.moments.proofs.ToldLaws.{Telling, tell-start, told-tellable}
+use Rattle.moments.proofs.AdvanceLaws.{Between, Turn, Ticked, tickedState, Chosen, Acted, Put, rest-fits, rest-idle, last, last-told, not-before, moment-fits, moment-idle, ended-movable, ended-turn, ended-told, number-small, limit-requires, acts, room, limit-due, limit-small, limit-told, return-small, return-told, put-going, put-falls, put-later}
 use Rattle.moments.proofs.advance.Statement.{statement}
 use Rattle.moments.proofs.advance.Tie as tie
 
 abbrev Inv-loop : tie.InvT-loop
-Inv-loop dues₀ amounts₀ t s₀ n x₀ dues amounts s x = Between (whole s₀ dues₀ amounts₀) t n (whole s dues amounts) x
+Inv-loop dues₀ amounts₀ told₀ t s₀ n x₀ dues amounts told s x = Between (whole s₀ dues₀ amounts₀) t n (whole s dues amounts) told x
 
 abbrev μ-loop : tie.MeasureT-loop
-μ-loop dues₀ amounts₀ t s₀ n x₀ dues amounts s x = weight t (whole s dues amounts)
+μ-loop dues₀ amounts₀ told₀ t s₀ n x₀ dues amounts told s x = weight t (whole s dues amounts)
 
 -- ---- before the first turn
 
@@ -48,7 +51,12 @@ next-due-requires c κs = omega (tests, sound (c .before .before .before) .sizes
 loop-holds : tie.Need-loop-holds Inv-loop μ-loop
 loop-holds c =
     let a = c .before .before .before .before in
-    record { going = start (given a) (a .args .t) (sound a) (a .pre .1); size = refl; first = c .next-due .ensures }
+    record {
+      going = start (given a) (a .args .t) (sound a) (a .pre .1);
+      telling = subst⁻¹ (Telling (given a) (a .args .t) (given a)) (a .pre .4) (tell-start (given a) (a .args .t) (sound a));
+      size = refl;
+      first = c .next-due .ensures;
+    }
 
 -- ---- the next moment
 
@@ -119,6 +127,18 @@ turn e =
 abbrev size : (e : Read) → turn e .state .header .n ≡ entry e .args .t1 .header .n
 size e = e .before .before .before .before .before .before .before .before .loop .inv .size
 
+-- what is told so far, and the room for more
+abbrev told : Read → List ℕ
+told e = e .before .before .before .before .before .before .before .before .loop .told
+
+telling : (e : Read) → Telling (turn e .origin) (turn e .to) (turn e .state) (told e)
+telling e = e .before .before .before .before .before .before .before .before .loop .inv .telling
+
+tellable : (e : Read) (n : ℕ) → n ≤ 1000000000000000000 → Tellable n (told e)
+tellable e n l =
+    let a = entry e in
+    told-tellable (given a) (a .args .t) (sound a) (a .pre .1) (a .pre .3) (a .pre .2) (turn e .state) (told e) (telling e) n l
+
 -- ---- no moment is due by t
 
 not-due : (c : tie.Then1 Inv-loop μ-loop) → dueBy (turn (c .before .before) .moment) (turn (c .before .before) .to) ≡ false
@@ -141,7 +161,10 @@ charged-idle-requires c κs = rest-idle (turn (c .before .before .before))
 
 returns : tie.Need-returns Inv-loop μ-loop
 returns c =
-    last (turn (c .before .before .before .before)) (not-due (c .before .before)) (c .charged-idle .result) (c .before .charged-thread .result) (c .charged-idle .ensures) (c .before .charged-thread .ensures)
+    let e = c .before .before .before .before in (
+      last (turn e) (not-due (c .before .before)) (c .charged-idle .result) (c .before .charged-thread .result) (c .charged-idle .ensures) (c .before .charged-thread .ensures),
+      last-told (turn e) (not-due (c .before .before)) (told e) (telling e),
+    )
 
 -- ---- a moment is due by t
 
@@ -216,21 +239,39 @@ element-set-from-full c = head-small (c .before .before .before .before .before 
 move-to-tail-requires : tie.Need-move-to-tail-requires Inv-loop μ-loop
 move-to-tail-requires c κs = let d = c .before .before .before .before .before in ended-movable (turnOf d) (ticked d) (at-end (c .before .before) .0)
 
+-- the thread is at the tail of its list
+abbrev Moved : Type 0
+Moved = tie.After-move-to-tail Inv-loop μ-loop
+
+abbrev ending : Moved → Charged
+ending c = c .before .before .before .before .before .before
+
+tell-quantum-requires : tie.Need-tell-quantum-requires Inv-loop μ-loop
+tell-quantum-requires c κs =
+    let e = ending (c .before) .before .before .before .before in
+    (head-small (e .before .before .before), tellable e 1 (omega arith))
+
 loop-less : tie.Need-loop-less Inv-loop μ-loop
 loop-less c =
-    let d = c .before .before .before .before .before .before in
-    let q = at-end (c .before .before .before) in
-    (ended-turn (turnOf d) (ticked d) (q .0) (eqb-true _ _ (q .1)) (c .before .before .with-full-quantum .result) (c .move-to-tail .result) _
-    (c .before .before .with-full-quantum .ensures) (c .move-to-tail .ensures .1) (c .move-to-tail .ensures .0)) .1
+    let o = c .before .before in
+    let d = ending o in
+    let q = at-end (o .before .before .before) in
+    (ended-turn (turnOf d) (ticked d) (q .0) (eqb-true _ _ (q .1)) (o .before .before .with-full-quantum .result) (o .move-to-tail .result) _
+    (o .before .before .with-full-quantum .ensures) (o .move-to-tail .ensures .1) (o .move-to-tail .ensures .0)) .1
 
 loop-again : tie.Need-loop-again Inv-loop μ-loop
 loop-again c =
-    let d = c .before .before .before .before .before .before in
-    let q = at-end (c .before .before .before) in
+    let o = c .before .before in
+    let d = ending o in
+    let q = at-end (o .before .before .before) in
     record {
       going =
-          (ended-turn (turnOf d) (ticked d) (q .0) (eqb-true _ _ (q .1)) (c .before .before .with-full-quantum .result) (c .move-to-tail .result) _
-          (c .before .before .with-full-quantum .ensures) (c .move-to-tail .ensures .1) (c .move-to-tail .ensures .0)) .0;
+          (ended-turn (turnOf d) (ticked d) (q .0) (eqb-true _ _ (q .1)) (o .before .before .with-full-quantum .result) (o .move-to-tail .result) _
+          (o .before .before .with-full-quantum .ensures) (o .move-to-tail .ensures .1) (o .move-to-tail .ensures .0)) .0;
+      telling =
+          subst⁻¹ (Telling (turnOf d .origin) (turnOf d .to) _) (c .tell-quantum .ensures)
+          (ended-told (turnOf d) (ticked d) (q .0) (eqb-true _ _ (q .1)) (o .before .before .with-full-quantum .result) (o .move-to-tail .result) _
+          (o .before .before .with-full-quantum .ensures) (o .move-to-tail .ensures .1) (o .move-to-tail .ensures .0) _ (telling (d .before .before .before .before)));
       size = size (d .before .before .before .before);
       first = turnOf d .seen .first;
     }
@@ -368,52 +409,79 @@ placed c =
       lists-is = c .before .before .before .before .before .send .ensures .0;
     }
 
+-- what is told before it
+abbrev heard : (c : Written) → Read
+heard c = of (for (ruling c)) .before .before .before .before
+
 -- ---- after a limit
 
+tell-limit-requires : tie.Need-tell-limit-requires Inv-loop μ-loop
+tell-limit-requires c κs =
+    let w = c .before .before in
+    let o = ruling w in
+    let k = for o in
+    (small k, tellable (heard w) (o .effect-at .result .back + 2) (omega (arith, limit-small (turnOf (of k)) (ticked (of k)) (chosen k) (limited o) (is-limit (decided k)) (o .effect-at .result) (o .effect-at .ensures) (c .before .if3 .taken))))
+
 mul-d : tie.Need-mul-d Inv-loop μ-loop
-mul-d c = omega (arith, small (for (ruling (c .before))))
+mul-d c = omega (arith, small (for (ruling (c .before .before .before))))
 
 element-copy-out-d : tie.Need-element-copy-out-d Inv-loop μ-loop
-element-copy-out-d c = omega (arith, small (for (ruling (c .before))))
+element-copy-out-d c = omega (arith, small (for (ruling (c .before .before .before))))
 
 after-limit-requires : tie.Need-after-limit-requires Inv-loop μ-loop
 after-limit-requires c κs = tt
 
 loop-less-2 : tie.Need-loop-less-2 Inv-loop μ-loop
-loop-less-2 c = let w = c .before .before .before in put-falls (turnOf (of (for (ruling w)))) _ _ _ (placed w) (acted (ruling w))
+loop-less-2 c = let w = c .before .before .before .before .before in put-falls (turnOf (of (for (ruling w)))) _ _ _ (placed w) (acted (ruling w))
 
 loop-again-2 : tie.Need-loop-again-2 Inv-loop μ-loop
 loop-again-2 c =
-    let w = c .before .before .before in
-    let o = ruling w in
-    let k = for o in
-    record {
-      going = put-going (turnOf (of k)) _ _ _ (placed w) (acted o);
-      size = size (of k .before .before .before .before);
-      first =
-          limit-due (turnOf (of k)) (ticked (of k)) (chosen k) (limited o) (is-limit (decided k)) (o .effect-at .result) (o .effect-at .ensures) (c .before .before .if3 .taken) (placed w)
-          (c .after-limit .result) (c .after-limit .ensures);
-    }
-
--- ---- after a replenishment
-
-next-due-from-requires : tie.Need-next-due-from-requires Inv-loop μ-loop
-next-due-from-requires c κs =
-    let w = c .before .before .before .before in
-    let k = for (ruling w) in
-    let n : entry (of k .before .before .before .before) .args .t1 .header .n ≤ 32 = omega (tests, size (of k .before .before .before .before), turnOf (of k) .going .mid .sizes) in
-    (n, λ i l p. put-later (turnOf (of k)) _ _ _ (placed w) (acted (ruling w)) i (omega arith) p)
-
-loop-less-3 : tie.Need-loop-less-3 Inv-loop μ-loop
-loop-less-3 c = let w = c .before .before .before .before .before in put-falls (turnOf (of (for (ruling w)))) _ _ _ (placed w) (acted (ruling w))
-
-loop-again-3 : tie.Need-loop-again-3 Inv-loop μ-loop
-loop-again-3 c =
     let w = c .before .before .before .before .before in
     let o = ruling w in
     let k = for o in
     record {
       going = put-going (turnOf (of k)) _ _ _ (placed w) (acted o);
+      telling =
+          subst⁻¹ (Telling (turnOf (of k) .origin) (turnOf (of k) .to) _) (c .before .before .tell-limit .ensures)
+          (limit-told (turnOf (of k)) (ticked (of k)) (chosen k) (limited o) (is-limit (decided k)) (o .effect-at .result) (o .effect-at .ensures) (c .before .before .before .before .if3 .taken) (placed w) _
+          (telling (heard w)));
+      size = size (of k .before .before .before .before);
+      first =
+          limit-due (turnOf (of k)) (ticked (of k)) (chosen k) (limited o) (is-limit (decided k)) (o .effect-at .result) (o .effect-at .ensures) (c .before .before .before .before .if3 .taken) (placed w)
+          (c .after-limit .result) (c .after-limit .ensures);
+    }
+
+-- ---- after a replenishment
+
+tell-back-requires : tie.Need-tell-back-requires Inv-loop μ-loop
+tell-back-requires c κs =
+    let w = c .before .before in
+    let o = ruling w in
+    let k = for o in
+    (small k, tellable (heard w) (o .effect-at .result .back + 1) (omega (arith, return-small (turnOf (of k)) (ticked (of k)) (chosen k) (limited o) (is-limit (decided k)) (o .effect-at .result) (o .effect-at .ensures) (c .before .if3 .left))))
+
+next-due-from-requires : tie.Need-next-due-from-requires Inv-loop μ-loop
+next-due-from-requires c κs =
+    let w = c .before .before .before .before .before .before in
+    let k = for (ruling w) in
+    let n : entry (of k .before .before .before .before) .args .t1 .header .n ≤ 32 = omega (tests, size (of k .before .before .before .before), turnOf (of k) .going .mid .sizes) in
+    (n, λ i l p. put-later (turnOf (of k)) _ _ _ (placed w) (acted (ruling w)) i (omega arith) p)
+
+loop-less-3 : tie.Need-loop-less-3 Inv-loop μ-loop
+loop-less-3 c = let w = c .before .before .before .before .before .before .before in put-falls (turnOf (of (for (ruling w)))) _ _ _ (placed w) (acted (ruling w))
+
+loop-again-3 : tie.Need-loop-again-3 Inv-loop μ-loop
+loop-again-3 c =
+    let b = c .before .before .before .before in
+    let w = b .before .before .before in
+    let o = ruling w in
+    let k = for o in
+    record {
+      going = put-going (turnOf (of k)) _ _ _ (placed w) (acted o);
+      telling =
+          subst⁻¹ (Telling (turnOf (of k) .origin) (turnOf (of k) .to) _) (b .tell-back .ensures)
+          (return-told (turnOf (of k)) (ticked (of k)) (chosen k) (limited o) (is-limit (decided k)) (o .effect-at .result) (o .effect-at .ensures) (b .before .before .if3 .left) (placed w) _
+          (telling (heard w)));
       size = size (of k .before .before .before .before);
       first = c .next-due-from .ensures ∙ ap (nextDue _ _) (sym (size (of k .before .before .before .before)));
     }
@@ -450,6 +518,7 @@ advance-spec =
     mul-full
     element-set-from-full
     move-to-tail-requires
+    tell-quantum-requires
     loop-less
     loop-again
     mul-after
@@ -471,11 +540,13 @@ advance-spec =
     element-write-s
     change-row-requires
     change-row-requires-2
+    tell-limit-requires
     mul-d
     element-copy-out-d
     after-limit-requires
     loop-less-2
     loop-again-2
+    tell-back-requires
     next-due-from-requires
     loop-less-3
     loop-again-3)

@@ -34,7 +34,7 @@ abbrev Taken : Type 0
 Taken = tie.After-step-at Inv-loop μ-loop
 
 abbrev turn : Taken → tie.At-loop Inv-loop μ-loop
-turn c = c .before .before .before .before
+turn c = c .before .before .before .before .before
 
 abbrev started : tie.At-loop Inv-loop μ-loop → tie.Start Inv-loop μ-loop
 started c = c .before .before .before
@@ -49,7 +49,7 @@ loop-holds : tie.Need-loop-holds Inv-loop μ-loop
 loop-holds c = (omega arith, c .before .before .pre .0, refl, omega arith, refl, printed-none _ _ _)
 
 step-at-requires : tie.Need-step-at-requires Inv-loop μ-loop
-step-at-requires c κs = c .before .before .before .loop .inv .1
+step-at-requires c κs = (c .before .before .before .before .loop .inv .1, refl)
 
 same-length : tie.Need-same-length Inv-loop μ-loop
 same-length c = turn (c .before .before .before) .loop .inv .2
@@ -63,7 +63,7 @@ returns c =
     let m = not-true _ (c .before .if1 .taken) in
     let z = stops-here (stateHere h) (a .file .now) (w .offset) (mostEvents - w .i) (step k) (k .step-at .ensures .0) m in (
       printed-all (w .inv .5) (line-none (stateHere h) (a .file .now) (w .offset) (mostEvents - w .i) (w .i) z),
-      (stays (stateHere h) (a .file .now) (w .offset) 0 (step k) (k .step-at .ensures .0) m ∙ sym (z .state) ∙ w .inv .4, k .step-at .ensures .1, omega arith),
+      (stays (stateHere h) (a .file .now) (w .offset) 0 (step k) (k .step-at .ensures .0) m ∙ sym (z .state) ∙ w .inv .4, k .step-at .ensures .1 .0, omega arith),
     )
 
 put-event-requires : tie.Need-put-event-requires Inv-loop μ-loop
@@ -88,7 +88,7 @@ loop-again c =
     let k : mostEvents - w .i ≡ suc (mostEvents - (w .i + 1)) = omega arith in
     let g = goes-on (stateHere h) (a .file .now) (w .offset) (mostEvents - (w .i + 1)) (step t) (t .step-at .ensures .0) (not-false _ (n .if1 .left)) in (
       omega arith,
-      t .step-at .ensures .1,
+      t .step-at .ensures .1 .0,
       p .put-event .kept .0 ∙ w .inv .2,
       omega (arith, w .inv .3, p .put-event .ensures .1),
       sym (g .state) ∙ rw k at (w .inv .4),
