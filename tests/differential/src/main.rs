@@ -8,6 +8,7 @@ mod checks;
 mod coverage;
 mod events;
 mod files;
+mod history;
 mod replays;
 mod searches;
 mod stored;
@@ -49,6 +50,8 @@ const SORTS: &[Sort] = &[
     sort("replays", 2_500, replays::replays),
     // the search for the next due, over any counts and entries
     sort("dues", 30_000, searches::searches),
+    // the budget of a thread seen from outside, tick by tick
+    sort("history", 100_000, history::histories),
 ];
 
 fn main() {
