@@ -1,0 +1,2 @@
+-- Laws of events whose time is a reading.
+pub mod CounterLaws
