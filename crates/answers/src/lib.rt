@@ -12,6 +12,21 @@ pub struct Answer {
     pub core: Core,
 }
 
+// The answer to an event without its state, for a state that is lent: status, the running thread or 255, the next moment or 0.
+#[repr(C)]
+pub struct Reply {
+    pub status: u8,
+    pub running: u8,
+    pub next: u64,
+}
+
+// The state after an event, without its slots, and the reply.
+#[repr(C)]
+pub struct Done {
+    pub core: Core,
+    pub reply: Reply,
+}
+
 // An answer of these parts: no other function lists its fields.
 pub fn answer_of(status: u8, running: u8, next: u64, c: Core) -> Answer
     ensures { λ r. ⌜ r ≡ partsOf status running next c ⌝ }

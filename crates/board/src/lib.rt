@@ -10,9 +10,10 @@ ghost use Rattle.state.specs.Updates.{whole};
 ghost use Rattle.events.specs.Answers.{executive};
 ghost use Rattle.events.specs.Opening.{opening};
 ghost use Rattle.events.specs.Reports.{eventNumbers};
-ghost use Rattle.answers.specs.Answer.{answerOf};
-ghost use Rattle.board.specs.Board.{replied, done};
+ghost use Rattle.answers.specs.Answer.{answerOf, replied, done};
 use answers::Answer;
+use answers::Done;
+use answers::Reply;
 use records::Event;
 use records::Header;
 use records::Parameters;
@@ -20,21 +21,6 @@ use records::THREADS;
 use reports::NUMBERS;
 use rows::Slots;
 use state::Core;
-
-// The answer to an event without its state: status, the running thread or 255, the next moment or 0.
-#[repr(C)]
-pub struct Reply {
-    pub status: u8,
-    pub running: u8,
-    pub next: u64,
-}
-
-// The state after an event, without its slots, and the reply.
-#[repr(C)]
-pub struct Done {
-    pub core: Core,
-    pub reply: Reply,
-}
 
 // A thread table: an array on its own is not passed by value in C.
 #[repr(C)]

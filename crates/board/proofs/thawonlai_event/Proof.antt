@@ -46,17 +46,17 @@ use Rattle.state.specs.Updates.{whole as stateOf}
 use Rattle.passing.specs.Sequence.{answer}
 use Rattle.events.specs.Answers.{executive}
 use Rattle.events.specs.Reports.{eventNumbers}
-use Rattle.board.specs.Board.{done as doneOf}
-use Rattle.board.specs.declared.Reply.{Reply}
-use Rattle.board.specs.declared.Done.{Done}
+use Rattle.answers.specs.Answer.{done as doneOf}
+use Rattle.answers.specs.declared.Reply.{Reply}
+use Rattle.answers.specs.declared.Done.{Done}
 use Rattle.state.proofs.Core as T
 use Rattle.state.proofs.Core.Laws as T′
 use Rattle.records.proofs.Event as E
 use Rattle.records.proofs.Event.Laws as E′
-use Rattle.board.proofs.Reply as R
-use Rattle.board.proofs.Reply.Laws as R′
-use Rattle.board.proofs.Done as S
-use Rattle.board.proofs.Done.Laws as S′
+use Rattle.answers.proofs.Reply as R
+use Rattle.answers.proofs.Reply.Laws as R′
+use Rattle.answers.proofs.Done as S
+use Rattle.answers.proofs.Done.Laws as S′
 use Rattle.board.proofs.event_done as callee
 use Rattle.board.proofs.event_done.Symbol as callee-def
 use Rattle.board.proofs.event_done.Symbol.{name as #board·event-done}
