@@ -1,6 +1,6 @@
 -- What a reading stands for, and how the event that it stands for is answered.
 use Prim.Native.Nat.{ℕ, zero, suc, _+_, _-_, _%_, _≤_, _<_}
-use mathlib.Core.Bool.{Bool, true, false, not}
+use mathlib.Core.Bool.{Bool, true, false}
 use mathlib.Core.Path.{_≡_, refl, sym, ap, _∙_}
 use mathlib.Core.List.{List, [], _∷_}
 use lib.Dec.{ltb}
@@ -11,7 +11,7 @@ use Rattle.base.proofs.TestLaws.{tests, same-test, cond-elim, cond-false}
 use Rattle.records.specs.declared.Event.{Event}
 use Rattle.records.specs.Ranges.{lastTime, longestStep}
 use Rattle.passing.specs.Sequence.{status, answer}
-use Rattle.passing.proofs.SequenceLaws.{answer-status, refused-state, unsound-status, unsound-answer, Acceptable, acceptable}
+use Rattle.passing.proofs.SequenceLaws.{answer-status, refused-state, unsound-status, unsound-answer, acceptable}
 use Rattle.state.specs.declared.State.{State}
 use Rattle.state.specs.Sound.{soundState}
 use Rattle.state.proofs.SoundLaws.{state-out}
@@ -22,6 +22,10 @@ use Rattle.counter.specs.declared.CounterEvent.{CounterEvent}
 use Rattle.counter.specs.Counter.{elapsedTicks, eventOf, counterAnswer, counterNumbers, shown, refusals, ElapsedIsDifference, SameAsFullTime, BackIsRefused, RefusedInOrder, NeverBeforeNow}
 use Rattle.counter.specs.Private.{guardedTime}
 
+-- the event at a time, whatever the reading
+abbrev timed : ℕ → CounterEvent → Event
+timed time e = record { time = time; kind = e .kind; thread = e .thread; parameters = e .parameters }
+
 -- 02 E10 1
 pub elapsed-is-difference : ElapsedIsDifference
 elapsed-is-difference now reading ticks h = (omega arith, (omega arith, λ l e. omega arith))
@@ -30,13 +34,9 @@ elapsed-is-difference now reading ticks h = (omega arith, (omega arith, λ l e. 
 full-time : (now time : ℕ) → now ≤ time → time - now ≤ 4294967295 → now + elapsedTicks now (time % 4294967296) ≡ time
 full-time now time h g = omega arith
 
--- an event at another time
-abbrev at : Event → ℕ → Event
-at e time = record { time = time; kind = e .kind; thread = e .thread; parameters = e .parameters }
-
 pub same-as-full-time : SameAsFullTime
 same-as-full-time s e h g =
-    let same = ap (at e) (full-time (s .now) (e .time) h g) in (ap (answer executive s) same, ap (eventNumbers s) same)
+    let same = ap (λ (x : ℕ). timed x (shown e)) (full-time (s .now) (e .time) h g) in (ap (answer executive s) same, ap (eventNumbers s) same)
 
 -- 02 E10 3
 back-is-far : (now reading back : ℕ) → (reading + back) % 4294967296 ≡ now % 4294967296 → 1 ≤ back → back ≤ 4293967295 → 1000000 < elapsedTicks now reading
@@ -94,10 +94,6 @@ never-before-now s e z =
     (sym (refused-in-order s e) ∙ z)
 
 -- ---- the code
-
--- the event that is handed on
-abbrev pub timed : ℕ → CounterEvent → Event
-timed time e = record { time = time; kind = e .kind; thread = e .thread; parameters = e .parameters }
 
 -- the guarded time is as good as the one that the reading stands for
 pub guarded-same : (s : State) (e : CounterEvent) (time : ℕ) → time ≡ guardedTime (s .now) (e .reading)

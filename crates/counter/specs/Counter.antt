@@ -47,7 +47,8 @@ SameAsFullTime =
     (s : State) (e : Event) → s .now ≤ e .time → e .time - s .now ≤ 4294967295
     → (counterAnswer s (shown e) ≡ answer executive s e) × (counterNumbers s (shown e) ≡ eventNumbers s e)
 
--- 02 E10 3: a reading that went back by 1 to 4,293,967,295 ticks shows as a step above 1,000,000, is refused and changes nothing
+-- 02 E10 3: a reading that went back by 1 to 4,293,967,295 ticks, which is one that shows the low 32 bits of now so many ticks later, shows
+-- as a step above 1,000,000, is refused and changes nothing
 abbrev pub BackIsRefused : Type 0
 BackIsRefused =
     (s : State) (e : CounterEvent) (back : ℕ) → (e .reading + back) % wrapsAt ≡ s .now % wrapsAt → 1 ≤ back → back ≤ 4293967295
