@@ -1,5 +1,5 @@
-/* What the static libraries export, for C: the functions of crates/board, board_search, board_trace, board_replay, board_text and
-   board_check, and the structs that they name. A slice is a pointer and then a length. */
+/* What the static libraries export, for C: the functions of crates/board, board_counter, board_search, board_trace, board_replay,
+   board_text and board_check, and the structs that they name. A slice is a pointer and then a length. */
 #ifndef THAWONLAI_H
 #define THAWONLAI_H
 #include <stddef.h>
@@ -9,6 +9,8 @@ enum { THREADS = 32, ENTRIES = 8, SLOTS = THREADS * ENTRIES, NUMBERS = THREADS *
 
 struct parameters { uint8_t policy, priority, low, max_repl; uint32_t flag; uint64_t budget, period; };
 struct event { uint64_t time; uint8_t kind, thread; struct parameters parameters; };
+/* an event whose time is a reading of a counter of 32 bits */
+struct counter_event { uint32_t reading; uint8_t kind, thread; struct parameters parameters; };
 struct header { uint32_t n; uint64_t start; };
 struct server { uint64_t capacity, used, activation; };
 struct thread { struct parameters parameters; uint8_t blocked; uint64_t total, left; struct server server; };
@@ -36,6 +38,7 @@ struct checked { uint8_t verdict, status; size_t line; };
 /* writes over all of the NUMBERS told: from 4 * i on what happened to thread i, that is the limits reached, the quanta ended, the
    replenishments carried out and the sum of their amounts; zeros where the event is refused */
 struct reply thawonlai_event(struct core *core, uint64_t *dues, uint64_t *amounts, uint64_t *told, struct event e);
+struct reply thawonlai_counter_event(struct core *core, uint64_t *dues, uint64_t *amounts, uint64_t *told, struct counter_event e);
 struct answer thawonlai_open(struct header header, struct table table, uint64_t *dues, uint64_t *amounts);
 uint8_t thawonlai_sound(const struct core *core, const uint64_t *dues, const uint64_t *amounts);
 struct next_due thawonlai_next_due(const uint8_t counts[THREADS], const uint64_t dues[SLOTS], uint32_t n);

@@ -7,6 +7,7 @@ fn main() {
     println!("cargo:rustc-link-search=native={}", folder.display());
     for name in [
         "board",
+        "board_counter",
         "board_search",
         "board_trace",
         "board_replay",

@@ -103,7 +103,7 @@ fn share(r: &mut Random, table: &mut [Parameters]) {
 }
 
 /// An opening; about `damage` in a hundred have a fault, some of them several.
-fn opening(r: &mut Random, aim: Aim, damage: u64) -> (u64, u32, [Parameters; THREADS]) {
+pub fn opening(r: &mut Random, aim: Aim, damage: u64) -> (u64, u32, [Parameters; THREADS]) {
     let full = r.one_in(16);
     let mut n = if full { THREADS as u32 } else { r.threads() };
     let mut table = table(r, n, aim);
@@ -183,7 +183,7 @@ fn sequence(case: &Case, tally: &mut Tally, seen: &mut Coverage) -> u64 {
 
 /// A state to give a single event: some are made up sound, some come from openings and events;
 /// half of them are then damaged in one to three fields.
-fn state(r: &mut Random, aim: Aim) -> State {
+pub fn state(r: &mut Random, aim: Aim) -> State {
     let mut s = if r.one_in(2) {
         r.sound_state()
     } else {

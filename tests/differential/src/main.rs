@@ -5,6 +5,7 @@
 mod blocked;
 mod case;
 mod checks;
+mod counter;
 mod coverage;
 mod events;
 mod files;
@@ -52,6 +53,8 @@ const SORTS: &[Sort] = &[
     sort("dues", 30_000, searches::searches),
     // the budget of a thread seen from outside, tick by tick
     sort("history", 100_000, history::histories),
+    // events at a reading of a counter that wraps
+    sort("laps", 120_000, counter::readings),
 ];
 
 fn main() {

@@ -6,11 +6,12 @@
 //!
 //! One processor; SCHED_FIFO, SCHED_RR and SCHED_SPORADIC; the state, the events, the
 //! trace file's reader and writer, the listing of a replay and the check of another
-//! one, traces as text, the search for the next due, and what happened while time
-//! passed.
+//! one, traces as text, the search for the next due, what happened while time passed,
+//! and events at a reading of a counter.
 #![forbid(unsafe_code)]
 
 mod check;
+mod counter;
 mod counts;
 mod event;
 pub mod random;
@@ -20,6 +21,7 @@ mod text;
 mod trace;
 
 pub use check::{verdict, Verdict};
+pub use counter::{counter_event, elapsed, full_event, CounterEvent};
 pub use counts::{counts, counts_text, Counts, Told, NOTHING_TOLD};
 pub use event::{event, event_told, next_moment, open, pass, running, Answer, Event};
 pub use search::{next_due, Dues};
