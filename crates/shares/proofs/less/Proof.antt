@@ -1,0 +1,15 @@
+-- `shares::less` meets its contract.
+use borrow.Author.Tests.{lt-ltb, le-ltb}
+use Rattle.shares.proofs.less.Statement.{statement}
+use Rattle.shares.proofs.less.Tie as tie
+use Rattle.shares.proofs.less.Reads as reads
+use Rattle.shares.proofs.less.Lts as lts
+
+returns : tie.Need-returns
+returns c = rw (lt-ltb _ _ (c .if1 .taken))
+
+returns-2 : tie.Need-returns-2
+returns-2 c = rw (le-ltb _ _ (c .if1 .left))
+
+pub less-spec : {M : Type 1} → statement M
+less-spec = tie.close (tie.spec returns returns-2)

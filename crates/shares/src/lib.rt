@@ -1,0 +1,223 @@
+// Shares of the elapsed time: of a thread that is asked for, and the largest and the smallest of all threads.
+//
+// Threads are compared by their totals, which are whole numbers: no float is compared.
+ghost use mathlib.Core.Path.{_≡_};
+ghost use mathlib.Core.Bool.{cond};
+ghost use Prim.Native.Nat.{_≤_};
+ghost use lib.Dec.{ltb};
+ghost use Rattle.records.specs.Ranges.{mostThreads, lastTime};
+ghost use Rattle.state.specs.Updates.{whole};
+ghost use Rattle.shares.specs.Shares.{quotient, shareOf, summarizedOf};
+ghost use Rattle.shares.specs.Replies.{shareReply, noSummary, summaryReply};
+ghost use Rattle.shares.specs.Private.{leadersOf};
+use records::THREADS;
+use rows::Slots;
+use state::Core;
+use thread::Thread;
+
+// A thread's share; none, where no time has passed; or the number by which it is refused.
+pub enum Share {
+    Of(f64),
+    NoTime,
+    Refused(u8),
+}
+
+// The largest and the smallest share, and the thread of each.
+pub struct Summary {
+    pub largest: f64,
+    pub largest_thread: u8,
+    pub smallest: f64,
+    pub smallest_thread: u8,
+}
+
+// The summary; none, where no time has passed; or the number by which it is refused.
+pub enum Summarized {
+    Of(Summary),
+    NoTime,
+    Refused(u8),
+}
+
+// The answer in numbers: 0 a share, 1 no time, 2 a refusal; then the refusal's number and the share. What doesn't apply is 0.
+#[repr(C)]
+pub struct ShareReply {
+    pub form: u8,
+    pub status: u8,
+    pub share: f64,
+}
+
+// The same of the summary.
+#[repr(C)]
+pub struct SummaryReply {
+    pub form: u8,
+    pub status: u8,
+    pub largest_thread: u8,
+    pub smallest_thread: u8,
+    pub largest: f64,
+    pub smallest: f64,
+}
+
+// A thread and its total.
+struct Leader {
+    thread: u8,
+    total: u64,
+}
+
+// The first thread with the most run time, and the first with the least.
+struct Leaders {
+    most: Leader,
+    least: Leader,
+}
+
+// total / elapsed: each converted exactly, and one division.
+pub fn quotient(total: u64, elapsed: u64) -> f64
+    requires { ⌜ (total ≤ lastTime) × (elapsed ≤ lastTime) ⌝ }
+    ensures { λ r. ⌜ r ≡ quotient total elapsed ⌝ }
+{
+    (total as f64) / (elapsed as f64)
+}
+
+// The second where it has more run time, else the first.
+fn more(a: Leader, b: Leader) -> Leader
+    ensures { λ r. ⌜ r ≡ cond (ltb (a .total) (b .total)) b a ⌝ }
+{
+    if a.total < b.total {
+        return b;
+    }
+    a
+}
+
+// The second where it has less run time, else the first.
+fn less(a: Leader, b: Leader) -> Leader
+    ensures { λ r. ⌜ r ≡ cond (ltb (b .total) (a .total)) b a ⌝ }
+{
+    if b.total < a.total {
+        return b;
+    }
+    a
+}
+
+// Of the first n threads those with the most and the least run time.
+fn leading(threads: [Thread; THREADS], n: usize) -> Leaders
+    requires { ⌜ n ≤ mostThreads ⌝ }
+    ensures { λ r. ⌜ r ≡ leadersOf threads n ⌝ }
+{
+    let first = threads[0];
+    let mut most = Leader {
+        thread: 0,
+        total: first.total,
+    };
+    let mut least = most;
+    let mut i: usize = 0;
+    while i < n {
+        let t = threads[i];
+        let here = Leader {
+            thread: i as u8,
+            total: t.total,
+        };
+        most = more(most, here);
+        least = less(least, here);
+        i = i + 1;
+    }
+    Leaders { most, least }
+}
+
+// The share of a thread, for any state and any number.
+pub fn share_of<'a>(c: Core, dues: &'a Slots, amounts: &'a Slots, thread: u8) -> Share
+    ensures { λ r. ⌜ r ≡ shareOf (whole c (now (dues .entry)) (now (amounts .entry))) thread ⌝ }
+{
+    // lent as slices, so that their lengths are known
+    rows::slots(dues);
+    rows::slots(amounts);
+    if !state::sound(c, dues, amounts) {
+        return Share::Refused(base::NOT_SOUND);
+    }
+    if c.header.n <= thread as u32 {
+        return Share::Refused(base::WRONG_THREAD);
+    }
+    let elapsed = c.now - c.header.start;
+    if elapsed == 0 {
+        return Share::NoTime;
+    }
+    let i = base::wide(thread);
+    let t = c.threads[i];
+    Share::Of(quotient(t.total, elapsed))
+}
+
+// The largest and the smallest share of the N threads, for any state.
+pub fn summary_of<'a>(c: Core, dues: &'a Slots, amounts: &'a Slots) -> Summarized
+    ensures { λ r. ⌜ r ≡ summarizedOf (whole c (now (dues .entry)) (now (amounts .entry))) ⌝ }
+{
+    rows::slots(dues);
+    rows::slots(amounts);
+    if !state::sound(c, dues, amounts) {
+        return Summarized::Refused(base::NOT_SOUND);
+    }
+    let elapsed = c.now - c.header.start;
+    if elapsed == 0 {
+        return Summarized::NoTime;
+    }
+    let n = c.header.n as usize;
+    let threads = c.threads;
+    let l = leading(threads, n);
+    Summarized::Of(Summary {
+        largest: quotient(l.most.total, elapsed),
+        largest_thread: l.most.thread,
+        smallest: quotient(l.least.total, elapsed),
+        smallest_thread: l.least.thread,
+    })
+}
+
+// A share's answer in numbers.
+pub fn share_reply(x: Share) -> ShareReply
+    ensures { λ r. ⌜ r ≡ shareReply x ⌝ }
+{
+    match x {
+        Share::Of(share) => ShareReply {
+            form: 0,
+            status: 0,
+            share,
+        },
+        Share::NoTime => ShareReply {
+            form: 1,
+            status: 0,
+            share: 0.0,
+        },
+        Share::Refused(status) => ShareReply {
+            form: 2,
+            status,
+            share: 0.0,
+        },
+    }
+}
+
+// A reply that holds no summary.
+fn no_summary(form: u8, status: u8) -> SummaryReply
+    ensures { λ r. ⌜ r ≡ noSummary form status ⌝ }
+{
+    SummaryReply {
+        form,
+        status,
+        largest_thread: 0,
+        smallest_thread: 0,
+        largest: 0.0,
+        smallest: 0.0,
+    }
+}
+
+// A summary's answer in numbers.
+pub fn summary_reply(x: Summarized) -> SummaryReply
+    ensures { λ r. ⌜ r ≡ summaryReply x ⌝ }
+{
+    match x {
+        Summarized::Of(s) => SummaryReply {
+            form: 0,
+            status: 0,
+            largest_thread: s.largest_thread,
+            smallest_thread: s.smallest_thread,
+            largest: s.largest,
+            smallest: s.smallest,
+        },
+        Summarized::NoTime => no_summary(1, 0),
+        Summarized::Refused(status) => no_summary(2, status),
+    }
+}
