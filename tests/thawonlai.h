@@ -1,4 +1,4 @@
-/* What the static libraries export, for C: the functions of crates/board, board_counter, board_search, board_trace, board_replay,
+/* What the static libraries export, for C: the functions of crates/board, board_counter, board_search, board_shares, board_trace, board_replay,
    board_text and board_check, and the structs that they name. A slice is a pointer and then a length. */
 #ifndef THAWONLAI_H
 #define THAWONLAI_H
@@ -26,6 +26,9 @@ struct core {
 struct reply { uint8_t status, running; uint64_t next; };
 /* status 0, or 5 where n is out of range; thread THREADS where no thread has anything pending, then due 0 */
 struct next_due { uint8_t status, thread; uint64_t due; };
+/* form 0 a share, 1 no time has passed, 2 refused with the status; what doesn't apply is 0 */
+struct share { uint8_t form, status; double share; };
+struct share_summary { uint8_t form, status, largest_thread, smallest_thread; double largest, smallest; };
 struct answer { uint8_t status, running; uint64_t next; struct core core; };
 struct table { struct parameters threads[THREADS]; };
 struct events { struct event events[EVENTS]; };
@@ -42,6 +45,8 @@ struct reply thawonlai_counter_event(struct core *core, uint64_t *dues, uint64_t
 struct answer thawonlai_open(struct header header, struct table table, uint64_t *dues, uint64_t *amounts);
 uint8_t thawonlai_sound(const struct core *core, const uint64_t *dues, const uint64_t *amounts);
 struct next_due thawonlai_next_due(const uint8_t counts[THREADS], const uint64_t dues[SLOTS], uint32_t n);
+struct share thawonlai_share(const struct core *core, const uint64_t *dues, const uint64_t *amounts, uint8_t thread);
+struct share_summary thawonlai_share_summary(const struct core *core, const uint64_t *dues, const uint64_t *amounts);
 struct found thawonlai_read(const uint8_t *file, size_t length);
 struct written thawonlai_write(struct header header, struct table table, struct events events, size_t count, uint8_t *out, size_t room);
 struct written thawonlai_copy(const uint8_t *file, size_t length, uint8_t *out, size_t room);

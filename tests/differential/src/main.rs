@@ -12,6 +12,7 @@ mod files;
 mod history;
 mod replays;
 mod searches;
+mod shares;
 mod stored;
 mod texts;
 mod told;
@@ -55,6 +56,8 @@ const SORTS: &[Sort] = &[
     sort("history", 100_000, history::histories),
     // events at a reading of a counter that wraps
     sort("laps", 120_000, counter::readings),
+    // shares of the elapsed time
+    sort("plots", 100_000, shares::shares),
 ];
 
 fn main() {

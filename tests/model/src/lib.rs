@@ -7,7 +7,7 @@
 //! One processor; SCHED_FIFO, SCHED_RR and SCHED_SPORADIC; the state, the events, the
 //! trace file's reader and writer, the listing of a replay and the check of another
 //! one, traces as text, the search for the next due, what happened while time passed,
-//! and events at a reading of a counter.
+//! events at a reading of a counter, and shares.
 #![forbid(unsafe_code)]
 
 mod check;
@@ -16,6 +16,7 @@ mod counts;
 mod event;
 pub mod random;
 mod search;
+mod shares;
 mod state;
 mod text;
 mod trace;
@@ -25,6 +26,7 @@ pub use counter::{counter_event, elapsed, full_event, CounterEvent};
 pub use counts::{counts, counts_text, Counts, Told, NOTHING_TOLD};
 pub use event::{event, event_told, next_moment, open, pass, running, Answer, Event};
 pub use search::{next_due, Dues};
+pub use shares::{share, summary, Share, Summary};
 pub use state::{assigned, in_range, sound, upper, List, Parameters, State, Thread};
 pub use text::{from_text, to_text, Made};
 pub use trace::{listing, read, total_bytes, write, Trace};
