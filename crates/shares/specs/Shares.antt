@@ -1,7 +1,7 @@
 -- 02 E13: a thread's share of the elapsed time, and the largest and the smallest share. Threads are compared by their totals, which are
 -- whole numbers, and only the share itself is a float.
 use Prim.Native.Nat.{ℕ, zero, suc, _-_, _≤_, _<_}
-use mathlib.Core.{Bool.Bool, Bool.true, Bool.cond, Bool.not, List.List, List.[], List._∷_, Path._≡_}
+use mathlib.Core.{Bool.Bool, Bool.true, Bool.false, Bool.cond, Bool.not, List.List, List.[], List._∷_, Path._≡_}
 use lib.{ListN.getD, Dec.ltb, Dec.leb, Dec.eqb, IntN.pos}
 use lib.Ieee as Ieee
 use Rattle.base.specs.{Refusals.firstRefusal, Status.wrongThread, Status.notSound}
@@ -76,6 +76,11 @@ summarizedOf s =
 -- 02 E13 1: each conversion is exact: the f64 of a number up to the last time is that number
 abbrev pub ConvertsExactly : Type 0
 ConvertsExactly = (n : ℕ) → n ≤ lastTime → Ieee.toUnsigned 64 (converted n) ≡ n
+
+-- 02 E13 1: so the share is the f64 nearest to the true quotient
+abbrev pub NearestQuotient : Type 0
+NearestQuotient =
+    (total elapsed : ℕ) → total ≤ lastTime → elapsed ≤ lastTime → 0 < elapsed → quotient total elapsed ≡ Ieee.round Ieee.binary64 false total elapsed
 
 -- 02 E13 1: in a sound state both numbers of every share are in that range, and no total is larger than the elapsed time
 abbrev pub InRange : Type 0
