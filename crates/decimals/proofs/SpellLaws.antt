@@ -1,13 +1,14 @@
 -- The digits of a fraction that counts units of 2^-104, one after another.
-use Prim.Native.Nat.{ℕ, zero, suc, _+_, _-_, _*_, _/_, _%_, _^_, _≤_, _<_, compare}
+use Prim.Native.Nat.{ℕ, zero, suc, _+_, _-_, _*_, _/_, _%_, _^_, _≤_, _<_, compare, Ordering}
 use mathlib.Core.Bool.{Bool, true, false, cond}
 use mathlib.Core.Path.{_≡_, refl, sym, ap, _∙_, subst}
 use native.Mathlib.Numerals.{add-one}
 use native.Mathlib.Omega.{arith}
-use native.Mathlib.Nat.{le-trans, lt-of-lt-of-le, le-add-right, mul-assoc, mul-one, mul-le-mul-right, pow-suc, zero-add}
+use native.Mathlib.Nat.{le-trans, le-of-eq, lt-of-lt-of-le, le-add-right, mul-assoc, mul-one, mul-le-mul-right, pow-suc, zero-add}
 use lib.Arith.{digits-lt, digits-div, digits-mod}
 use lib.Dec.{leb, ltb}
 use lib.Ieee.{nearest}
+use lib.Ieee.Fits.{nearest-le}
 use borrow.Author.Tests.{ltb-true, ltb-false, le-leb, lt-leb}
 use Rattle.decimals.specs.declared.Decimals.{Decimals}
 use Rattle.decimals.specs.Decimals.{enough, mostPlaces, placesOf, decimalsAt, decimalsOf}
@@ -121,3 +122,7 @@ module _ (f d h l p : ℕ) (s : Spelling f d h l p) where
       ∙ ap (λ (n : ℕ). nearest (a / unit) (compare (n * 2) unit)) (sym y)
       ∙ ap (λ (n : ℕ). nearest (n / unit) (compare (n % unit * 2) unit)) (s .value))
       ∙ ap (λ (n : ℕ). decimalsAt f unit n) (sym k)
+
+-- rounding adds one at most
+pub rounded-most : (d : ℕ) (o : Ordering) (r : ℕ) → d < enough * 10 → r ≡ nearest d o → r ≤ enough * 10
+rounded-most d o r h e = le-trans (le-of-eq e) (le-trans (nearest-le d o) h)

@@ -1,7 +1,7 @@
 -- A float in decimal: 17 significant digits of its own value, correctly rounded, which read back as that float.
 use Prim.Native.Nat.{ℕ, zero, suc, _*_, _/_, _%_, _+_, _^_, _≤_}
 use mathlib.Core.{Bool.cond, Bool.false, List.List, List.[], List._∷_, List._++_, Path._≡_}
-use lib.Dec.{T, leb}
+use lib.{Dec.T, Dec.leb, IntN.pos}
 use lib.Ieee as Ieee
 use lib.Ieee.{Nearest.closest, Positive.num, Positive.den, Positive.positive}
 use Rattle.text.specs.Decimal.{decimal, digitZero}
@@ -27,11 +27,25 @@ decimalsAt a c k = record { digits = closest (a * 10 ^ k) c; places = k }
 unfoldable pub decimalsOf : ℕ → ℕ → Decimals
 decimalsOf a c = decimalsAt a c (placesOf mostPlaces a c)
 
+-- what decimals are within: 17 digits, or 10^17 where these are rounded up to it
+pub record Within (d : Decimals) : Type 0 where
+  pub digits : d .digits ≤ enough * 10
+  pub places : d .places ≤ mostPlaces
+
 -- a float as its own fraction, num / den, from 2^-50 to 1
 pub record InUnit (x : Ieee.Float) : Type 0 where
   pub above : T (positive x)
   pub small : den x ≤ num x * 2 ^ 50
   pub most : num x ≤ den x
+
+-- the float 0
+abbrev pub none : Ieee.Float
+none = Ieee.fin false 0 (pos 0)
+
+-- a float that has a text here
+pub data Shown (x : Ieee.Float) : Type 0 where
+  nothing : x ≡ none → Shown x
+  something : InUnit x → Shown x
 
 -- the point
 abbrev pub point : ℕ
@@ -49,3 +63,7 @@ textBy (suc n) d = pointed (d .places) (d .digits)
 
 unfoldable pub floatText : Ieee.Float → List ℕ
 floatText x = textBy (num x) (decimalsOf (num x) (den x))
+
+-- the most bytes of a float's text: the places, and before them at most the digits of a 64-bit number and the point
+abbrev pub longestText : ℕ
+longestText = mostPlaces + 21

@@ -6,7 +6,7 @@ ghost use Prim.Native.Nat.{_+_, _*_, _<_, _≤_, compare};
 ghost use lib.ListN.{length};
 ghost use lib.Ieee.{nearest, Positive.num, Positive.den};
 ghost use Rattle.text.specs.Placed.{Put};
-ghost use Rattle.decimals.specs.Decimals.{enough, InUnit, decimalsOf, pointed};
+ghost use Rattle.decimals.specs.Decimals.{enough, InUnit, decimalsOf, Within, Shown, pointed, floatText, longestText};
 ghost use Rattle.decimals.specs.Private.{limb, unit, Split, joined, goesOn};
 
 // The digits as one whole number, and how many of them stand after the point.
@@ -82,6 +82,7 @@ fn rounded(digits: u64, high: u64, low: u64) -> u64
 fn spelt(l: Limbs) -> Decimals
     requires { ⌜ (l .high ≤ limb) × (l .low < limb) ⌝ }
     ensures { λ r. ⌜ r ≡ decimalsOf (joined l) unit ⌝ }
+    ensures within { λ r. ⌜ Within r ⌝ }
 {
     let mut digits = l.high / LIMB;
     let mut high = l.high % LIMB;
@@ -105,6 +106,7 @@ fn spelt(l: Limbs) -> Decimals
 pub fn decimals_of(x: f64) -> Decimals
     requires { ⌜ InUnit x ⌝ }
     ensures { λ r. ⌜ r ≡ decimalsOf (num x) (den x) ⌝ }
+    ensures within { λ r. ⌜ Within r ⌝ }
 {
     let l = split(x);
     spelt(l)
@@ -121,4 +123,17 @@ pub fn put_pointed(out: &mut [u8], at: usize, places: u64, digits: u64) -> usize
     }
     let here = put_pointed(out, at, places - 1, digits / 10);
     text::put_byte(out, here, b'0' + (digits % 10) as u8)
+}
+
+// A float's text: 0, or its decimals.
+pub fn put_float(out: &mut [u8], at: usize, x: f64) -> usize
+    requires { ⌜ Shown x × (at + longestText ≤ length (now out)) ⌝ }
+    ensures { λ r. ⌜ Put (now (out .entry)) at (floatText x) (now (out .exit)) r ⌝ }
+    ensures { λ r. ⌜ r ≤ at + longestText ⌝ }
+{
+    if f64::to_bits(x) == 0 {
+        return text::put_number(out, at, 0);
+    }
+    let d = decimals_of(x);
+    put_pointed(out, at, d.places, d.digits)
 }

@@ -15,7 +15,7 @@ returns : tie.Need-returns
 returns c =
     let s = c .before .split in
     let x = c .before .before .args .x in
-    c .spelt .ensures ∙ decimals-same unit (den x) (omega arith) (den-pos x) (joined (s .result)) (num x) (s .ensures .value)
+    (c .spelt .ensures .0 ∙ decimals-same unit (den x) (omega arith) (den-pos x) (joined (s .result)) (num x) (s .ensures .value), c .spelt .ensures .1)
 
 pub decimals-of-spec : {M : Type 1} → statement M
 decimals-of-spec = tie.close (tie.spec (λ c κs. search needs) spelt-requires returns)

@@ -1,11 +1,11 @@
 -- `decimals::spelt` meets its contract: the digits so far and what is left are the fraction.
-use Prim.Native.Nat.{ℕ, _+_, _-_, _*_, _/_, _%_}
+use Prim.Native.Nat.{ℕ, _+_, _-_, _*_, _/_, _%_, compare}
 use mathlib.Core.Path.{_≡_, refl, sym, ap, _∙_}
 use native.Mathlib.Omega.{arith}
 use borrow.Author.Needs.{needs}
 use Rattle.decimals.specs.Decimals.{mostPlaces, decimalsOf}
 use Rattle.decimals.specs.Private.{limb, unit}
-use Rattle.decimals.proofs.SpellLaws.{Spelling, spelling-none, spelling-next, spelling-is, digits-fit, both}
+use Rattle.decimals.proofs.SpellLaws.{Spelling, spelling-none, spelling-next, spelling-is, digits-fit, both, rounded-most}
 use Rattle.decimals.proofs.spelt.Statement.{statement}
 use Rattle.decimals.proofs.spelt.Tie as tie
 
@@ -44,9 +44,11 @@ returns c =
     let e = c .before in
     let w = e .before .before .loop in
     let l = e .before .before .before .before .before .args .l in
-    let z : l .high / limb * unit + (l .high % limb * limb + l .low) ≡ l .high * limb + l .low = omega arith in
-    spelling-is _ (w .digits) (w .high) (w .low) (w .places) (w .inv) (sym (e .before .goes-on .ensures) ∙ e .if1 .left) _ (c .rounded .ensures)
-    ∙ ap (λ (n : ℕ). decimalsOf n unit) z
+    let z : l .high / limb * unit + (l .high % limb * limb + l .low) ≡ l .high * limb + l .low = omega arith in (
+      spelling-is _ (w .digits) (w .high) (w .low) (w .places) (w .inv) (sym (e .before .goes-on .ensures) ∙ e .if1 .left) _ (c .rounded .ensures)
+          ∙ ap (λ (n : ℕ). decimalsOf n unit) z,
+      record { digits = rounded-most (w .digits) (compare ((w .high * limb + w .low) * 2) unit) (c .rounded .result) (w .inv .digits) (c .rounded .ensures); places = w .inv .few },
+    )
 
 pub spelt-spec : {M : Type 1} → statement M
 spelt-spec =
