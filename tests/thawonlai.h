@@ -5,7 +5,7 @@
 #include <stddef.h>
 #include <stdint.h>
 
-enum { THREADS = 32, ENTRIES = 8, SLOTS = THREADS * ENTRIES, NUMBERS = THREADS * 4, ROW = 33, EVENTS = 1500 };
+enum { THREADS = 32, ENTRIES = 8, SLOTS = THREADS * ENTRIES, NUMBERS = THREADS * 4, ROW = 33, EVENTS = 1500, SHARE_LINES = 4096 };
 
 struct parameters { uint8_t policy, priority, low, max_repl; uint32_t flag; uint64_t budget, period; };
 struct event { uint64_t time; uint8_t kind, thread; struct parameters parameters; };
@@ -47,6 +47,8 @@ uint8_t thawonlai_sound(const struct core *core, const uint64_t *dues, const uin
 struct next_due thawonlai_next_due(const uint8_t counts[THREADS], const uint64_t dues[SLOTS], uint32_t n);
 struct share thawonlai_share(const struct core *core, const uint64_t *dues, const uint64_t *amounts, uint8_t thread);
 struct share_summary thawonlai_share_summary(const struct core *core, const uint64_t *dues, const uint64_t *amounts);
+/* the lines of a trace's shares into SHARE_LINES bytes, zeros after them; how many bytes they are */
+size_t thawonlai_share_listing(const uint8_t *file, size_t length, uint8_t out[SHARE_LINES]);
 struct found thawonlai_read(const uint8_t *file, size_t length);
 struct written thawonlai_write(struct header header, struct table table, struct events events, size_t count, uint8_t *out, size_t room);
 struct written thawonlai_copy(const uint8_t *file, size_t length, uint8_t *out, size_t room);

@@ -6,7 +6,11 @@ ghost use mathlib.Core.Path.{_≡_};
 ghost use Rattle.state.specs.Updates.{whole};
 ghost use Rattle.shares.specs.Shares.{shareOf, summarizedOf};
 ghost use Rattle.shares.specs.Replies.{shareReply, summaryReply};
+ghost use lib.ListN.{replicate};
+ghost use Rattle.text.specs.Placed.{Put};
+ghost use Rattle.share_listing.specs.ShareListing.{shareListing, largest};
 use rows::Slots;
+use share_listing::LARGEST;
 use shares::ShareReply;
 use shares::SummaryReply;
 use state::Core;
@@ -50,4 +54,12 @@ pub extern "C" fn thawonlai_share_summary<'c, 'a>(
     ensures { λ r. ⌜ r ≡ summaryReply (summarizedOf (whole (now (core .entry)) (now (dues .entry)) (now (amounts .entry)))) ⌝ }
 {
     summary_numbers(*core, dues, amounts)
+}
+
+// The lines of a trace's shares, at the start of a buffer of 4,096 bytes, with zeros after them; how many bytes they are.
+#[no_mangle]
+pub extern "C" fn thawonlai_share_listing(file: &[u8], out: &mut [u8; LARGEST]) -> usize
+    ensures { λ r. ⌜ Put (replicate largest 0) 0 (shareListing (now (file .entry))) (now (out .exit)) r ⌝ }
+{
+    share_listing::share_listing(file, out)
 }

@@ -12,6 +12,7 @@ mod files;
 mod history;
 mod replays;
 mod searches;
+mod share_lines;
 mod shares;
 mod stored;
 mod texts;
@@ -58,6 +59,8 @@ const SORTS: &[Sort] = &[
     sort("laps", 120_000, counter::readings),
     // shares of the elapsed time
     sort("plots", 100_000, shares::shares),
+    // the lines of shares at the end of a replay
+    sort("lines", 4_000, share_lines::share_lines),
 ];
 
 fn main() {

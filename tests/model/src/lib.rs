@@ -26,7 +26,7 @@ pub use counter::{counter_event, elapsed, full_event, CounterEvent};
 pub use counts::{counts, counts_text, Counts, Told, NOTHING_TOLD};
 pub use event::{event, event_told, next_moment, open, pass, running, Answer, Event};
 pub use search::{next_due, Dues};
-pub use shares::{share, summary, Share, Summary};
+pub use shares::{share, share_listing, summary, Share, Summary};
 pub use state::{assigned, in_range, sound, upper, List, Parameters, State, Thread};
 pub use text::{from_text, to_text, Made};
 pub use trace::{listing, read, total_bytes, write, Trace};

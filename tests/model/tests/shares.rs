@@ -1,6 +1,6 @@
 //! Shares for the plot (02 E13): cases written out by hand.
 
-use model::{open, share, summary, Parameters, Share, State, Summary, THREADS};
+use model::{open, share, share_listing, summary, Parameters, Share, State, Summary, THREADS};
 
 /// A sound state of so many FIFO threads with these totals, and so much idle time.
 fn state(totals: &[u64], idle: u64) -> State {
@@ -53,4 +53,14 @@ fn lowest_number_on_a_tie() {
         smallest_thread: 0,
     };
     assert_eq!(summary(&state(&[1, 3, 3, 1, 2], 0)), Ok(Some(expected)));
+}
+
+/// The worked replay (01 Replay): 16 and 30 of 46 ticks.
+#[test]
+fn the_worked_replay() {
+    let file = include_bytes!("../../../examples/worked.trace");
+    let lines = "share 0 16 46 0.34782608695652173\nshare 1 30 46 0.65217391304347827\n\
+        largest 1 0.65217391304347827\nsmallest 0 0.34782608695652173\n";
+    assert_eq!(share_listing(file), lines.as_bytes());
+    assert_eq!(share_listing(&file[..40]), b"refused 10\n");
 }

@@ -1,0 +1,49 @@
+-- `share_lines::put_leader` meets its contract: its word, the number, and then the share.
+use native.Mathlib.Omega.{arith}
+use Rattle.text.specs.Fields.{space}
+use Rattle.text.proofs.PlacedLaws.{after}
+use Rattle.share_lines.specs.Lines.{leaderLine}
+use Rattle.share_lines.proofs.LineLaws.{byte-most}
+use borrow.Author.Needs.{needs}
+use Rattle.share_lines.proofs.put_leader.Statement.{statement}
+use Rattle.share_lines.proofs.put_leader.Tie as tie
+use Rattle.share_lines.proofs.put_leader.Reads as reads
+use Rattle.share_lines.proofs.put_leader.Lts as lts
+use Rattle.share_lines.proofs.put_end.Reads as put-end-reads
+use Rattle.text.proofs.put_field.Reads as put-field-reads
+use Rattle.text.proofs.put_word.Reads as put-word-reads
+
+put-word-requires : tie.Need-put-word-requires
+put-word-requires c κs = search needs
+
+put-field-requires : tie.Need-put-field-requires
+put-field-requires c κs =
+    let w = c .before .before .before .put-word in
+    let s = c .before .before .before .before .before .before .before in
+    omega (arith, s .pre .1, s .pre .2, w .ensures .next, w .kept .0, byte-most space (s .fits .thread))
+
+put-end-requires : tie.Need-put-end-requires
+put-end-requires c κs =
+    let f = c .before .before .before .put-field in
+    let w = c .before .before .before .before .before .before .before .put-word in
+    let s = c .before .before .before .before .before .before .before .before .before .before .before in
+    (s .pre .0, omega (arith, s .pre .1, s .pre .2, f .ensures .next, f .kept .0, w .ensures .next, w .kept .0, byte-most space (s .fits .thread)))
+
+same-length : tie.Need-same-length
+same-length c = search needs
+
+returns : tie.Need-returns
+unfolding leaderLine
+returns c =
+    let e = c .before .before .put-end in
+    let f = c .before .before .before .before .before .before .put-field in
+    let w = c .before .before .before .before .before .before .before .before .before .before .put-word in
+    let s = c .before .before .before .before .before .before .before .before .before .before .before .before .before .before in
+    let l = byte-most space (s .fits .thread) in (
+      after (omega (arith, s .pre .1, s .pre .2, f .ensures .next, w .ensures .next)) (after (omega (arith, s .pre .1, s .pre .2, w .ensures .next)) (w .ensures) (f .ensures)) (e .ensures .0),
+      omega (arith, e .ensures .1, s .pre .1, f .ensures .next, w .ensures .next),
+    )
+
+pub put-leader-spec : {M : Type 1} → statement M
+put-leader-spec =
+    tie.close (tie.spec put-word-requires put-field-requires put-end-requires same-length returns)

@@ -1,0 +1,3 @@
+-- What a reader of `share_lines` must believe.
+pub mod Lines
+pub mod Bounds

@@ -1,0 +1,2 @@
+-- Laws that the proofs of `share_listing` share.
+pub mod ListingLaws

@@ -1,0 +1,2 @@
+-- What a reader of `share_listing` must believe.
+pub mod ShareListing

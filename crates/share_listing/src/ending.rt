@@ -1,0 +1,68 @@
+// The state that a file's last event left, and its lines.
+ghost use mathlib.Core.Path.{_≡_};
+ghost use mathlib.Core.Bool.{true};
+ghost use Prim.Native.Nat.{_≤_};
+ghost use lib.ListN.{length};
+ghost use Rattle.trace_records.specs.Layout.{mostEvents};
+ghost use Rattle.state.specs.Sound.{soundState};
+ghost use Rattle.state.specs.Updates.{whole};
+ghost use Rattle.text.specs.Placed.{Put};
+ghost use Rattle.replay_steps.specs.FileSteps.{endFrom};
+ghost use Rattle.listing.specs.Lines.{refusedLine};
+ghost use Rattle.share_listing.specs.ShareListing.{shareListing, largest};
+use reports::NUMBERS;
+use rows::SLOTS;
+use rows::Slots;
+use state::Core;
+use trace_records::EVENTS;
+
+// The state after the events from an offset on, without its slots.
+fn last_core(opened: Core, dues: &mut Slots, amounts: &mut Slots, file: &[u8], first: usize) -> Core
+    requires { ⌜ soundState (whole opened (now dues) (now amounts)) ≡ true ⌝ }
+    ensures { λ r. ⌜ (whole r (now (dues .exit)) (now (amounts .exit)) ≡ endFrom (whole opened (now (dues .entry)) (now (amounts .entry))) (now (file .entry)) first mostEvents)
+        × (soundState (whole r (now (dues .exit)) (now (amounts .exit))) ≡ true) ⌝ }
+{
+    let mut s = opened;
+    let mut offset = first;
+    let mut left = EVENTS;
+    while 0 < left {
+        let mut told = [0u64; NUMBERS];
+        let step = replay_steps::step_at(s, dues, amounts, &mut told, file, offset);
+        if !step.more {
+            let core = step.answer.core;
+            return core;
+        }
+        s = step.answer.core;
+        offset = step.offset;
+        left -= 1;
+    }
+    s
+}
+
+// The only line of a file that is refused.
+fn put_refusal(out: &mut [u8], status: u8) -> usize
+    requires { ⌜ largest ≤ length (now out) ⌝ }
+    ensures { λ r. ⌜ Put (now (out .entry)) 0 (refusedLine status) (now (out .exit)) r ⌝ }
+    ensures { λ r. ⌜ r ≤ largest ⌝ }
+{
+    text::put_labelled(out, 0, b"refused ", status as u64)
+}
+
+// All lines of a file, or that of its refusal, from the buffer's start on.
+pub(super) fn put_listing(out: &mut [u8], file: &[u8]) -> usize
+    requires { ⌜ largest ≤ length (now out) ⌝ }
+    ensures { λ r. ⌜ Put (now (out .entry)) 0 (shareListing (now (file .entry))) (now (out .exit)) r ⌝ }
+    ensures { λ r. ⌜ r ≤ largest ⌝ }
+{
+    let mut dues = [0u64; SLOTS];
+    let mut amounts = [0u64; SLOTS];
+    let begun = replay_steps::begin(file, &mut dues, &mut amounts);
+    let status = begun.status;
+    if status != 0 {
+        return put_refusal(out, status);
+    }
+    let a = begun.answer;
+    let opened = a.core;
+    let last = last_core(opened, &mut dues, &mut amounts, file, begun.offset);
+    share_lines::put_shares(out, 0, last, &dues, &amounts)
+}
