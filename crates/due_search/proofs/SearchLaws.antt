@@ -1,12 +1,13 @@
 -- The search for the next due through the word of the threads that have something pending: what the word has left after some threads, and
--- why the search may end early.
+-- why the search may end early; and the word where a count changed, or of some of the threads.
 use Prim.Native.Nat.{ℕ, zero, suc, _+_, _-_, _^_, _≤_, _<_}
 use mathlib.Core.Bool.{Bool, true, false, cond}
 use mathlib.Core.Path.{_≡_, refl, sym, ap, subst, _∙_}
-use mathlib.Core.List.{List}
-use lib.Bits.{bitAnd}
+use mathlib.Core.List.{List, [], _∷_}
+use lib.Bits.{bitAnd, bitOr, bitXor, differ}
 use lib.Count.{trailingZeros}
-use lib.ListN.{getD}
+use lib.ListN.{getD, set, take}
+use lib.Seq.{getD-set-same, getD-set-other}
 use lib.Dec.{eqb, ltb}
 use native.Mathlib.Nat.{pow-suc}
 use native.Mathlib.Omega.{arith}
@@ -16,8 +17,9 @@ use borrow.Author.Tests.{eq-eqb, ne-eqb, le-ltb, ltb-true, ltb-false}
 use Rattle.due_search.specs.declared.Due.{Due}
 use Rattle.due_search.specs.Search.{firstDue, sooner, nextDue}
 use Rattle.due_search.specs.Kept.{NoneBefore}
-use Rattle.due_search.specs.Private.{digit, pendingDigit, PendingWord}
-use Rattle.due_search.proofs.DigitLaws.{below-lowest, lowest-set, cleared, raised, above-length}
+use Rattle.due_search.specs.Word.{digit, pendingDigit, PendingWord, WordAfter}
+use Rattle.due_search.proofs.DueLaws.{others-dont-matter}
+use Rattle.due_search.proofs.DigitLaws.{below-lowest, lowest-set, cleared, raised, above-length, or-digit, and-digit, xor-digit, digit-small, power-own, power-other, ones-below, ones-above}
 
 -- ---- the word
 
@@ -95,18 +97,6 @@ module _ (counts : List ℕ) (word i : ℕ) (r : Rest counts word i) where
 
 -- ---- the search
 
--- after a thread that has something pending, some thread is the best
-sooner-found : (k d : ℕ) (x : Due) → k < 32 → sooner k d x .thread ≡ 32 → ⊥
-sooner-found k d x l e = go (ℕ-discrete (x .thread) 32)
-  where
-    than : (b : Bool) → (x .thread ≡ 32 → ⊥) → cond b (record { due = d; thread = k }) x .thread ≡ 32 → ⊥
-    than true m f = omega arith
-    than false m f = m f
-
-    go : Dec (x .thread ≡ 32) → ⊥
-    go (yes m) = let g = rw (eq-eqb (x .thread) 32 m) at e in omega arith
-    go (no m) = than (ltb d (x .due)) m (rw (ne-eqb (x .thread) 32 m) at e)
-
 module _ (counts dues : List ℕ) where
   -- threads that have nothing pending change nothing
   skipped : (i k : ℕ) → i ≤ k → ((j : ℕ) → i ≤ j → j < k → getD counts j 0 ≡ 0) → nextDue counts dues k ≡ nextDue counts dues i
@@ -144,14 +134,8 @@ module _ (counts dues : List ℕ) where
     unfolding nextDue
     thread-passed z = rw (add-one k, eq-eqb (getD counts k 0) 0 z) e
 
-    module _ (z : getD counts k 0 ≡ 0 → ⊥) (d : ℕ) (r : Due) (f : d ≡ firstDue dues k) (g : r ≡ sooner k d best) where
-      pub thread-compared : r ≡ nextDue counts dues (k + 1)
-      thread-compared = rw (add-one k) (g ∙ ap (λ (x : ℕ). sooner k x best) f ∙ ap (sooner k (firstDue dues k)) e ∙ sym (compared k z))
-
-      -- and none of the others is sooner than what is not after `earliest`
-      pub compared-enough : (n earliest : ℕ) → k < n → n ≤ 32 → r .due ≤ earliest → NoneBefore counts dues n earliest → r ≡ nextDue counts dues n
-      compared-enough n earliest l m h a =
-          ends earliest r h (λ t. sooner-found k d best (omega arith) (ap (λ (x : Due). x .thread) (sym g) ∙ t)) (k + 1) thread-compared n (omega arith) a
+    pub thread-compared : (getD counts k 0 ≡ 0 → ⊥) → (d : ℕ) (r : Due) → d ≡ firstDue dues k → r ≡ sooner k d best → r ≡ nextDue counts dues (k + 1)
+    thread-compared z d r f g = rw (add-one k) (g ∙ ap (λ (x : ℕ). sooner k x best) f ∙ ap (sooner k (firstDue dues k)) e ∙ sym (compared k z))
 
   -- none was found, since the word names no thread below n
   pub none-found : (n word : ℕ) → n ≤ 32 → PendingWord counts word → n ≤ trailingZeros 32 word → record { due = 0; thread = 32 } ≡ nextDue counts dues n
@@ -216,3 +200,72 @@ module _ (counts dues : List ℕ) (n : ℕ) (small : n ≤ 32) where
     -- none is sooner than a best that is not after `earliest`
     pub seen-enough : (earliest : ℕ) → best .due ≤ earliest → NoneBefore counts dues n earliest → best ≡ nextDue counts dues n
     seen-enough earliest d a = ends counts dues earliest best d (s .some) (s .upTo) (s .passed) n (s .within) a
+
+-- ---- the word where a count changed
+
+module _ (word i : ℕ) where
+  -- the bit of thread i set, and then taken off: the others are as they were
+  with-own : digit i (bitOr word (2 ^ i)) ≡ 1
+  with-own = or-digit i word (2 ^ i) ∙ omega (arith, power-own i, digit-small i word)
+
+  with-other : (j : ℕ) → (j ≡ i → ⊥) → digit j (bitOr word (2 ^ i)) ≡ digit j word
+  with-other j n = or-digit j word (2 ^ i) ∙ omega (arith, power-other i j n)
+
+  without-own : digit i (bitXor (bitOr word (2 ^ i)) (2 ^ i)) ≡ 0
+  without-own = xor-digit i (bitOr word (2 ^ i)) (2 ^ i) ∙ rw (with-own, power-own i)
+
+  differ-none : (x : ℕ) → differ x 0 ≡ x
+  differ-none zero = refl
+  differ-none (suc x) = refl
+
+  without-other : (j : ℕ) → (j ≡ i → ⊥) → digit j (bitXor (bitOr word (2 ^ i)) (2 ^ i)) ≡ digit j word
+  without-other j n = xor-digit j (bitOr word (2 ^ i)) (2 ^ i) ∙ rw (with-other j n, power-other i j n) (differ-none (digit j word))
+
+  -- a word that differs in that bit alone
+  changed : (count r : ℕ) → digit i r ≡ cond (eqb count 0) 0 1 → ((j : ℕ) → (j ≡ i → ⊥) → digit j r ≡ digit j word) → WordAfter word i count r
+  changed count r own others counts l p j m = go (ℕ-discrete j i)
+    where
+      go : Dec (j ≡ i) → digit j r ≡ pendingDigit (set counts i count) j
+      go (yes e) = rw (e, getD-set-same counts i count 0 l) own
+      go (no e) = rw (getD-set-other counts i j count 0 e) (others j e ∙ p j m)
+
+  pub word-with : (count : ℕ) → (count ≡ 0 → ⊥) → WordAfter word i count (bitOr word (2 ^ i))
+  word-with count z = changed count (bitOr word (2 ^ i)) (with-own ∙ rw (ne-eqb count 0 z)) with-other
+
+  pub word-without : (count : ℕ) → count ≡ 0 → WordAfter word i count (bitXor (bitOr word (2 ^ i)) (2 ^ i))
+  word-without count z = changed count (bitXor (bitOr word (2 ^ i)) (2 ^ i)) (without-own ∙ rw (eq-eqb count 0 z)) without-other
+
+-- ---- the threads below n alone
+
+taken-below : (n j : ℕ) (xs : List ℕ) → j < n → getD (take n xs) j 0 ≡ getD xs j 0
+taken-below zero j xs l = absurd (omega arith)
+taken-below (suc n) j [] l = refl
+taken-below (suc n) zero (x ∷ xs) l = refl
+taken-below (suc n) (suc j) (x ∷ xs) l = taken-below n j xs (omega arith)
+
+taken-above : (n j : ℕ) (xs : List ℕ) → n ≤ j → getD (take n xs) j 0 ≡ 0
+taken-above zero j xs l = refl
+taken-above (suc n) j [] l = refl
+taken-above (suc n) zero (x ∷ xs) l = absurd (omega arith)
+taken-above (suc n) (suc j) (x ∷ xs) l = taken-above n j xs (omega arith)
+
+-- where the threads from n on have nothing pending, the search may go on to the last
+pub all-threads : (counts dues : List ℕ) (n : ℕ) → n ≤ 32 → ((j : ℕ) → n ≤ j → j < 32 → getD counts j 0 ≡ 0) → nextDue counts dues 32 ≡ nextDue counts dues n
+all-threads counts dues n l h = skipped counts dues n 32 l h
+
+module _ (counts : List ℕ) (n : ℕ) where
+  pub below-word : (word : ℕ) → PendingWord counts word → PendingWord (take n counts) (bitAnd word (2 ^ n - 1))
+  below-word word p j m = go (ltb j n) refl
+    where
+      go : (b : Bool) → ltb j n ≡ b → digit j (bitAnd word (2 ^ n - 1)) ≡ pendingDigit (take n counts) j
+      go true e =
+          let l = ltb-true j n e in
+          rw (taken-below n j counts l) (and-digit j word (2 ^ n - 1) ∙ omega (arith, ones-below n j l, digit-small j word) ∙ p j m)
+      go false e =
+          let l = ltb-false j n e in
+          rw (taken-above n j counts l) (and-digit j word (2 ^ n - 1) ∙ omega (arith, ones-above n j l))
+
+  pub below-due : (dues : List ℕ) → n ≤ 32 → nextDue (take n counts) dues 32 ≡ nextDue counts dues n
+  below-due dues l =
+      all-threads (take n counts) dues n l (λ j a b. taken-above n j counts a)
+      ∙ others-dont-matter (take n counts) dues counts dues n (λ i h. record { pending = ap (λ (x : ℕ). eqb x 0) (taken-below n i counts h); first = λ c. refl })

@@ -1,4 +1,4 @@
 -- What a reader of `due_search` must believe.
 pub mod Search
 pub mod Kept
-pub mod Private
+pub mod Word

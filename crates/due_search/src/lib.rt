@@ -1,7 +1,7 @@
 // The search for the next due: threads that have nothing pending are passed over, and of the rest only the first due is read.
 //
 // Which threads those are is put into a word first, a bit for each, and its lowest bit is taken off until none is left; few threads are
-// looked at one by one, since the word costs more.
+// looked at one by one, since the word costs more. Who searches again may keep the word.
 ghost use mathlib.Core.Path.{_≡_};
 ghost use mathlib.Core.Bool.{cond};
 ghost use Prim.Native.Nat.{_-_, _<_, _≤_, _^_};
@@ -10,8 +10,8 @@ ghost use lib.Count.{trailingZeros};
 ghost use lib.Dec.{eqb, ltb};
 ghost use Rattle.records.specs.Ranges.{mostThreads};
 ghost use Rattle.due_search.specs.Search.{firstDue, sooner, nextDue};
-ghost use Rattle.due_search.specs.Kept.{NextAfter, NoneBefore};
-ghost use Rattle.due_search.specs.Private.{PendingWord};
+ghost use Rattle.due_search.specs.Kept.{NextAfter};
+ghost use Rattle.due_search.specs.Word.{PendingWord, NextInWord, WordAfter};
 use account::ENTRIES;
 use records::THREADS;
 use rows::SLOTS;
@@ -33,33 +33,15 @@ pub fn next_due<'a>(counts: &'a [u8; THREADS], dues: &'a [u64; SLOTS], n: usize)
     requires { ⌜ n ≤ mostThreads ⌝ }
     ensures { λ r. ⌜ r ≡ nextDue (now (counts .entry)) (now (dues .entry)) n ⌝ }
 {
-    next_due_from(counts, dues, n, 0)
-}
-
-// The same, where no first due is before `earliest`: the search ends at the first that is not after it, since none is sooner.
-pub fn next_due_from<'a>(
-    counts: &'a [u8; THREADS],
-    dues: &'a [u64; SLOTS],
-    n: usize,
-    earliest: u64,
-) -> Due
-    requires { ⌜ (n ≤ mostThreads) × NoneBefore (now counts) (now dues) n earliest ⌝ }
-    ensures { λ r. ⌜ r ≡ nextDue (now (counts .entry)) (now (dues .entry)) n ⌝ }
-{
     if n < MANY {
-        return each_thread(counts, dues, n, earliest);
+        return each_thread(counts, dues, n);
     }
-    by_word(counts, dues, n, earliest)
+    next_in_word(below(pending_word(counts), n), dues, 0)
 }
 
 // The same, thread by thread.
-fn each_thread<'a>(
-    counts: &'a [u8; THREADS],
-    dues: &'a [u64; SLOTS],
-    n: usize,
-    earliest: u64,
-) -> Due
-    requires { ⌜ (n ≤ mostThreads) × NoneBefore (now counts) (now dues) n earliest ⌝ }
+fn each_thread<'a>(counts: &'a [u8; THREADS], dues: &'a [u64; SLOTS], n: usize) -> Due
+    requires { ⌜ n ≤ mostThreads ⌝ }
     ensures { λ r. ⌜ r ≡ nextDue (now (counts .entry)) (now (dues .entry)) n ⌝ }
 {
     let mut best = Due {
@@ -74,36 +56,32 @@ fn each_thread<'a>(
             continue;
         }
         best = sooner_of(best, k, first_due(dues, k));
-        if best.due <= earliest {
-            return best;
-        }
     }
     best
 }
 
-// The same, through the word of the threads that have something pending.
-fn by_word<'a>(counts: &'a [u8; THREADS], dues: &'a [u64; SLOTS], n: usize, earliest: u64) -> Due
-    requires { ⌜ (n ≤ mostThreads) × NoneBefore (now counts) (now dues) n earliest ⌝ }
-    ensures { λ r. ⌜ r ≡ nextDue (now (counts .entry)) (now (dues .entry)) n ⌝ }
+// That of the threads of a word. Where no first due is before `earliest`, the search ends at the first that is not after it, since none is
+// sooner.
+pub fn next_in_word(word: u32, dues: &[u64; SLOTS], earliest: u64) -> Due
+    ensures { λ r. ⌜ NextInWord word (now (dues .entry)) earliest r ⌝ }
 {
-    let word = pending_word(counts);
-    let first = lowest(word);
-    if n <= first {
+    if word == 0 {
         return Due {
             due: 0,
             thread: THREADS,
         };
     }
+    let first = lowest(word);
     let mut rest = without_lowest(word);
     let mut best = Due {
         due: first_due(dues, first),
         thread: first,
     };
     while earliest < best.due {
-        let k = lowest(rest);
-        if n <= k {
+        if rest == 0 {
             return best;
         }
+        let k = lowest(rest);
         rest = without_lowest(rest);
         best = lesser_of(best, k, first_due(dues, k));
     }
@@ -111,7 +89,7 @@ fn by_word<'a>(counts: &'a [u8; THREADS], dues: &'a [u64; SLOTS], n: usize, earl
 }
 
 // The threads that have something pending, a bit for each.
-fn pending_word(counts: &[u8; THREADS]) -> u32
+pub fn pending_word(counts: &[u8; THREADS]) -> u32
     ensures { λ r. ⌜ PendingWord (now (counts .entry)) r ⌝ }
 {
     let mut word: u32 = 0;
@@ -123,15 +101,44 @@ fn pending_word(counts: &[u8; THREADS]) -> u32
     word
 }
 
+// The same word where thread i's count became `count`.
+pub fn word_after(word: u32, i: usize, count: u8) -> u32
+    requires { ⌜ i < mostThreads ⌝ }
+    ensures { λ r. ⌜ WordAfter word i count r ⌝ }
+{
+    let bit = bit_of(i);
+    let with = word | bit;
+    if count == 0 {
+        return with ^ bit;
+    }
+    with
+}
+
+// The threads of a word that are below n.
+fn below(word: u32, n: usize) -> u32
+    requires { ⌜ n ≤ mostThreads ⌝ }
+    ensures { λ r. ⌜ r ≡ bitAnd word (2 ^ n - 1) ⌝ }
+{
+    word & (((1u64 << (n as u32)) - 1) as u32)
+}
+
 // The bit of thread i where it has something pending, else 0.
 fn pending_bit(count: u8, i: usize) -> u32
     requires { ⌜ i < mostThreads ⌝ }
     ensures { λ r. ⌜ r ≡ cond (eqb count 0) 0 (2 ^ i) ⌝ }
 {
     if 0 < count {
-        return 1u32 << (i as u32);
+        return bit_of(i);
     }
     0
+}
+
+// The bit of thread i.
+fn bit_of(i: usize) -> u32
+    requires { ⌜ i < mostThreads ⌝ }
+    ensures { λ r. ⌜ r ≡ 2 ^ i ⌝ }
+{
+    1u32 << (i as u32)
 }
 
 // The lowest thread of a word, THREADS where it has none.

@@ -31,13 +31,14 @@ use Rattle.ticks.proofs.EarlierLaws.{earlier-left}
 use Rattle.ticks.specs.Running.{level, head, ran, charge, limit, next}
 use Rattle.due_search.specs.Search.{nextDue}
 use Rattle.due_search.specs.Kept.{NextAfter}
+use Rattle.due_search.specs.Word.{PendingWord, NextInWord}
 use Rattle.moments.specs.Changes.{sentTo, withEffect}
 use Rattle.moments.specs.Moments.{quantumEnded, limits, passed}
 use Rattle.moments.specs.Reports.{reported}
 use Rattle.due_search.proofs.DueLaws.{found}
 use Rattle.moments.proofs.InsertLaws.{came, limit-entries}
 use Rattle.moments.proofs.ChargeLaws.{limit-later}
-use Rattle.moments.proofs.TurnLaws.{firstOf, first-later, Going, weight, turn-rest, turn-limit, due-some, not-past, charged-going, turn-due}
+use Rattle.moments.proofs.TurnLaws.{firstOf, first-later, first-of-all, Going, weight, turn-rest, turn-limit, due-some, not-past, charged-going, turn-due}
 use Rattle.moments.proofs.SeenLaws.{Seen, seen-head, seen-at, seen-small, seen-limit, seen-next, charge-fits, charge-place}
 use Rattle.moments.proofs.StepLaws.{Sendable, limit-not-upper, limit-runs, limit-thread, quantum-movable, quantum-is, limited-present, limited-is, limited-requires, limited-sendable, due-sendable, limited-used}
 use Rattle.moments.proofs.ReportBounds.{limit-back, return-back, first-amount}
@@ -74,11 +75,12 @@ put-is : (u : State) (j : ℕ) (e : Effect) (p : Put u j e) → putState u j e p
 put-is u j e p =
     λ y. stateOf (u .header) (u .now) (u .idle) ((p .word-is ∙ ap (λ (k : ℕ). occupancy (sentTo (e .place) k (threadAt u j .parameters) (u .lists))) (p .number-is)) y) (set (u .threads) j (p .thread-is y)) (set (u .counts) j (p .count-is y)) (p .dues-is y) (p .amounts-is y) ((p .lists-is ∙ ap (λ (k : ℕ). sentTo (e .place) k (threadAt u j .parameters) (u .lists)) (p .number-is)) y)
 
--- what holds between turns: time goes on as it did before, with what is told so far, and x is the next due
-pub record Between (s₀ : State) (t n : ℕ) (s : State) (told : List ℕ) (x : Due) : Type 0 where
+-- what holds between turns: time goes on as it did before, with what is told so far, the word names the threads that have something
+-- pending, and x is the next due
+pub record Between (s₀ : State) (t : ℕ) (s : State) (told : List ℕ) (waiting : ℕ) (x : Due) : Type 0 where
   pub going : Going s₀ t s
   pub telling : Telling s₀ t s told
-  pub size : s .header .n ≡ n
+  pub named : PendingWord (s .counts) waiting
   pub first : x ≡ firstOf s
 
 -- a turn: where time started and where it goes to, the state, and what is read of it
@@ -127,10 +129,16 @@ pub put-falls : (r : Turn) (u : State) (j : ℕ) (e : Effect) (p : Put u j e) �
 put-falls r u j e p a = subst⁻¹ (λ (y : State). weight (r .to) y < weight (r .to) (r .state)) (put-is u j e p) (a .falls)
 
 -- no due is before now then
-pub put-later : (r : Turn) (u : State) (j : ℕ) (e : Effect) (p : Put u j e) → Acted r u j e
+put-later : (r : Turn) (u : State) (j : ℕ) (e : Effect) (p : Put u j e) → Acted r u j e
     → (i : ℕ) → i < 32 → 0 < getD (set (u .counts) j (p .count)) i 0 → u .now ≤ getD (p .dues) (i * 8) 0
 put-later r u j e p a i l c =
     omega (arith, row-first i (p .dues), first-later (λ i. u .now - 1) (putState u j e p) (put-going r u j e p a .mid) i l c)
+
+-- and the search through the word finds the next due
+pub put-first : (r : Turn) (u : State) (j : ℕ) (e : Effect) (p : Put u j e) → Acted r u j e
+    → (waiting : ℕ) (x : Due) → PendingWord (set (u .counts) j (p .count)) waiting → NextInWord waiting (p .dues) (u .now) x → x ≡ firstOf (putState u j e p)
+put-first r u j e p a waiting x w f =
+    f (set (u .counts) j (p .count)) w (put-later r u j e p a) ∙ first-of-all (λ i. u .now - 1) (putState u j e p) (put-going r u j e p a .mid)
 
 module _ (r : Turn) where
   abbrev s₀ : State

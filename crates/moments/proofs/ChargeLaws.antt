@@ -217,6 +217,13 @@ due-after start now lo b t q (rr n z h l v f) c = absurd (omega (arith, ap (λ (
 due-after start now lo b t q (sporadic n z h l v) c =
     first-after start now lo (runsUpper (isBlocked t) (t .parameters) (record { server = t .server; pending = q })) (t .parameters) (record { server = t .server; pending = q }) v c
 
+-- a thread that isn't there has nothing pending
+pub absent-none : (start now lo : ℕ) (t : Thread) (q : Pending) → ThreadSound start now lo false t q → q .count ≡ 0
+absent-none start now lo t q (absent n e f) = ap (λ (q : Pending). q .count) f
+absent-none start now lo t q (fifo n z h l v f) = false-true n
+absent-none start now lo t q (rr n z h l v f) = false-true n
+absent-none start now lo t q (sporadic n z h l v) = false-true n
+
 pub first-bound : (q : Pending) (m : ℕ) → (0 < q .count → m < getD (q .dues) 0 0) → 0 < firstDue q → m < firstDue q
 first-bound q m f h = go (ℕ-discrete (q .count) 0)
   where

@@ -10,7 +10,7 @@ use lib.Seq.{set-getD}
 use lib.Dec.{ltb, leb, eqb}
 use native.Mathlib.Omega.{arith}
 use native.Mathlib.Decide.{ℕ-discrete}
-use borrow.Author.Tests.{lt-ltb, le-leb, lt-leb, ltb-true, ltb-false}
+use borrow.Author.Tests.{lt-ltb, le-ltb, le-leb, lt-leb, ltb-true, ltb-false}
 use Rattle.records.specs.declared.Header.{Header}
 use Rattle.records.specs.Ranges.{byPolicy}
 use Rattle.base.proofs.TestLaws.{tests, cond-elim, cond-true, cond-false}
@@ -31,7 +31,7 @@ use Rattle.rows.specs.Rows.{slotsAt}
 use Rattle.state.specs.State.{threadAt, pendingAt, accountAt}
 use Rattle.thread.specs.Thread.{isBlocked, noThread}
 use Rattle.rows.proofs.RowLaws.{row-length, row-first}
-use Rattle.state.proofs.SoundLaws.{SoundFrom, Sound, state-in}
+use Rattle.state.proofs.SoundLaws.{ThreadSound, SoundFrom, Sound, state-in}
 use Rattle.due_search.specs.declared.Due.{Due}
 use Rattle.ticks.specs.Running.{level, head, idles, ran, charge, limit, next}
 use Rattle.due_search.specs.Search.{nextDue, LeastFirstDue}
@@ -40,7 +40,8 @@ use Rattle.ticks.proofs.RunLaws.{charged-none}
 use Rattle.moments.specs.Moments.{quantumEnded, limitsOf, limits, firstReturned, replenish, replenishBelow, fire, clock, passed}
 use Rattle.moments.proofs.ChangeLaws.{pending-other}
 use Rattle.due_search.proofs.DueLaws.{found}
-use Rattle.moments.proofs.ChargeLaws.{due-after, wait-thread, next-due, dues-after, limit-later, charged-sound}
+use Rattle.due_search.proofs.SearchLaws.{all-threads}
+use Rattle.moments.proofs.ChargeLaws.{due-after, absent-none, wait-thread, next-due, dues-after, limit-later, charged-sound}
 use Rattle.moments.proofs.LimitLaws.{limits-none}
 use Rattle.moments.proofs.FireLaws.{bounds-same, first-counted-at, first-returned-sound, keeps-limits}
 use Rattle.moments.proofs.MomentLaws.{before, within-limit, limits-sound, passing}
@@ -66,6 +67,15 @@ bounds lo lo′ s h d =
 
 pub first-later : (lo : ℕ → ℕ) (s : State) → SoundFrom lo s → (i : ℕ) → i < 32 → 0 < getD (s .counts) i 0 → lo i < getD (slotsAt i (s .dues)) 0 0
 first-later lo s h i l c = due-after (s .header .start) (s .now) (lo i) (ltb i (s .header .n)) (threadAt s i) (pendingAt s i) (h .each i l) c
+
+-- it is that of all 32 threads, since those that aren't there have nothing pending
+pub first-of-all : (lo : ℕ → ℕ) (s : State) → SoundFrom lo s → nextDue (s .counts) (s .dues) 32 ≡ firstOf s
+first-of-all lo s h = all-threads (s .counts) (s .dues) (s .header .n) (omega (tests, h .sizes)) none
+  where
+    none : (j : ℕ) → s .header .n ≤ j → j < 32 → getD (s .counts) j 0 ≡ 0
+    none j a l =
+        absent-none (s .header .start) (s .now) (lo j) (threadAt s j) (pendingAt s j)
+        (subst (λ (b : Bool). ThreadSound (s .header .start) (s .now) (lo j) b (threadAt s j) (pendingAt s j)) (le-ltb j (s .header .n) a) (h .each j l))
 
 pub sound-mid : (s : State) → Sound s → Mid s
 sound-mid s h = bounds (λ i. s .now) (λ i. s .now - 1) s h (λ i l c. omega (arith, first-later (λ i. s .now) s h i l c))

@@ -149,8 +149,9 @@ pub fn advance(
     ensures { λ r. ⌜ whole r (now (dues .exit)) (now (amounts .exit)) ≡ passed (whole s (now (dues .entry)) (now (amounts .entry))) t ⌝ }
     ensures numbers { λ _. ⌜ now (told .exit) ≡ numbers (reported (whole s (now (dues .entry)) (now (amounts .entry))) t) ⌝ }
 {
-    let n = s.header.n as usize;
-    let mut x = due_search::next_due(&s.counts, dues, n);
+    // kept from search to search, since a turn changes one count at most
+    let mut waiting = due_search::pending_word(&s.counts);
+    let mut x = due_search::next_in_word(waiting, dues, 0);
     loop {
         let p = ready::highest(s.word);
         let h = ticks::head_at(&s.lists, p);
@@ -201,6 +202,7 @@ pub fn advance(
         s.word = send(&mut s.lists, word, number, parameters, place);
         let pending = account::count_after(first, amount, count);
         s.counts[j] = pending;
+        waiting = due_search::word_after(waiting, j, pending);
         change_row(dues, j, first, amount, count, due);
         change_row(amounts, j, first, amount, count, amount);
         if limited {
@@ -210,6 +212,6 @@ pub fn advance(
             continue;
         }
         reports::tell_back(told, j, back);
-        x = due_search::next_due_from(&s.counts, dues, n, m);
+        x = due_search::next_in_word(waiting, dues, m);
     }
 }

@@ -1,18 +1,17 @@
--- `due_search::each_thread` meets its contract: after i threads `best` is what the definition gives for i, and where the search ends early
--- none of the others is sooner.
+-- `due_search::each_thread` meets its contract: after i threads `best` is what the definition gives for i.
 use Prim.Native.Nat.{_-_, _≤_}
 use mathlib.Core.Path.{_≡_, refl}
 use native.Mathlib.Omega.{arith}
 use Rattle.due_search.specs.Search.{nextDue}
-use Rattle.due_search.proofs.SearchLaws.{thread-passed, thread-compared, compared-enough}
+use Rattle.due_search.proofs.SearchLaws.{thread-passed, thread-compared}
 use Rattle.due_search.proofs.each_thread.Statement.{statement}
 use Rattle.due_search.proofs.each_thread.Tie as tie
 
 abbrev Inv-loop : tie.InvT-loop
-Inv-loop counts dues n earliest best₀ i₀ best i = (i ≤ n) × (best ≡ nextDue counts dues i)
+Inv-loop counts dues n best₀ i₀ best i = (i ≤ n) × (best ≡ nextDue counts dues i)
 
 abbrev μ-loop : tie.MeasureT-loop
-μ-loop counts dues n earliest best₀ i₀ best i = n - i
+μ-loop counts dues n best₀ i₀ best i = n - i
 
 loop-holds : tie.Need-loop-holds Inv-loop μ-loop
 unfolding nextDue
@@ -39,32 +38,21 @@ first-due-requires c κs = omega arith
 sooner-of-requires : tie.Need-sooner-of-requires Inv-loop μ-loop
 sooner-of-requires c κs = tt
 
-returns : tie.Need-returns Inv-loop μ-loop
-returns c =
-    let s = c .before .before in
-    let f = s .before in
-    let l = f .before .before .before .before in
-    let a = l .before .args in
-    compared-enough (a .counts .now) (a .dues .now) (l .loop .i) (l .loop .best) (l .loop .inv .1) (f .before .if1 .left) (f .first-due .result)
-    (s .sooner-of .result) (f .first-due .ensures) (s .sooner-of .ensures) (a .n) (a .earliest) (omega arith) (omega (arith, l .before .pre .0))
-    (c .if2 .taken) (l .before .pre .1)
-
 loop-less-2 : tie.Need-loop-less-2 Inv-loop μ-loop
 loop-less-2 c = omega arith
 
 loop-again-2 : tie.Need-loop-again-2 Inv-loop μ-loop
 loop-again-2 c =
-    let s = c .before .before in
-    let f = s .before in
+    let f = c .before in
     let l = f .before .before .before .before in
     let a = l .before .args in (
       omega arith,
       thread-compared (a .counts .now) (a .dues .now) (l .loop .i) (l .loop .best) (l .loop .inv .1) (f .before .if1 .left) (f .first-due .result)
-          (s .sooner-of .result) (f .first-due .ensures) (s .sooner-of .ensures),
+          (c .sooner-of .result) (f .first-due .ensures) (c .sooner-of .ensures),
     )
 
-returns-2 : tie.Need-returns-2 Inv-loop μ-loop
-returns-2 c = let e : c .before .loop .i ≡ c .before .before .args .n = omega arith in rw (← e) (c .before .loop .inv .1)
+returns : tie.Need-returns Inv-loop μ-loop
+returns c = let e : c .before .loop .i ≡ c .before .before .args .n = omega arith in rw (← e) (c .before .loop .inv .1)
 
 pub each-thread-spec : {M : Type 1} → statement M
 each-thread-spec =
@@ -79,7 +67,6 @@ each-thread-spec =
     loop-again
     first-due-requires
     sooner-of-requires
-    returns
     loop-less-2
     loop-again-2
-    returns-2)
+    returns)

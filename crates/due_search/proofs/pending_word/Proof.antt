@@ -4,7 +4,7 @@ use mathlib.Core.Path.{_≡_}
 use native.Mathlib.Nat.{pow-le-pow-right}
 use native.Mathlib.Numerals.{add-one}
 use native.Mathlib.Omega.{arith}
-use Rattle.due_search.specs.Private.{digit, pendingDigit}
+use Rattle.due_search.specs.Word.{digit, pendingDigit}
 use Rattle.due_search.proofs.SearchLaws.{word-more}
 use Rattle.due_search.proofs.pending_word.Statement.{statement}
 use Rattle.due_search.proofs.pending_word.Tie as tie

@@ -15,20 +15,20 @@ use Rattle.state.specs.declared.State.{State}
 use Rattle.state.specs.State.{threadAt}
 use Rattle.state.specs.Updates.{whole}
 use Rattle.state.proofs.SoundLaws.{Sound, state-out}
-use Rattle.due_search.specs.Search.{nextDue}
-use Rattle.moments.proofs.TurnLaws.{weight, start}
+use Rattle.due_search.specs.Word.{PendingWord}
+use Rattle.moments.proofs.TurnLaws.{weight, start, first-of-all}
 use Rattle.moments.proofs.SeenLaws.{seen-held, top-small, thread-fits}
 use Rattle.moments.proofs.StepLaws.{Sendable}
 use Rattle.moments.proofs.ToldLaws.{Telling, tell-start, told-tellable}
-use Rattle.moments.proofs.AdvanceLaws.{Between, Turn, Ticked, tickedState, Chosen, Acted, Put, rest-fits, rest-idle, last, last-told, not-before, moment-fits, moment-idle, ended-movable, ended-turn, ended-told, number-small, limit-requires, acts, room, limit-due, limit-small, limit-told, return-small, return-told, put-going, put-falls, put-later}
+use Rattle.moments.proofs.AdvanceLaws.{Between, Turn, Ticked, tickedState, Chosen, Acted, Put, putState, rest-fits, rest-idle, last, last-told, not-before, moment-fits, moment-idle, ended-movable, ended-turn, ended-told, number-small, limit-requires, acts, room, limit-due, limit-small, limit-told, return-small, return-told, put-going, put-falls, put-first}
 use Rattle.moments.proofs.advance.Statement.{statement}
 use Rattle.moments.proofs.advance.Tie as tie
 
 abbrev Inv-loop : tie.InvT-loop
-Inv-loop dues₀ amounts₀ told₀ t s₀ n x₀ dues amounts told s x = Between (whole s₀ dues₀ amounts₀) t n (whole s dues amounts) told x
+Inv-loop dues₀ amounts₀ told₀ t s₀ waiting₀ x₀ dues amounts told s waiting x = Between (whole s₀ dues₀ amounts₀) t (whole s dues amounts) told waiting x
 
 abbrev μ-loop : tie.MeasureT-loop
-μ-loop dues₀ amounts₀ told₀ t s₀ n x₀ dues amounts told s x = weight t (whole s dues amounts)
+μ-loop dues₀ amounts₀ told₀ t s₀ waiting₀ x₀ dues amounts told s waiting x = weight t (whole s dues amounts)
 
 -- ---- before the first turn
 
@@ -42,20 +42,21 @@ here c = whole (c .loop .s) (c .loop .dues) (c .loop .amounts)
 sound : (c : tie.Start Inv-loop μ-loop) → Sound (given c)
 sound c = state-out (given c) (c .pre .0)
 
-cast-n : tie.Need-cast-n Inv-loop μ-loop
-cast-n c = omega (tests, sound c .sizes)
+pending-word-requires : tie.Need-pending-word-requires Inv-loop μ-loop
+pending-word-requires c κs = tt
 
-next-due-requires : tie.Need-next-due-requires Inv-loop μ-loop
-next-due-requires c κs = omega (tests, sound (c .before .before .before) .sizes)
+next-in-word-requires : tie.Need-next-in-word-requires Inv-loop μ-loop
+next-in-word-requires c κs = tt
 
 loop-holds : tie.Need-loop-holds Inv-loop μ-loop
 loop-holds c =
-    let a = c .before .before .before .before in
+    let w = c .before .before in
+    let a = w .before .before .before in
     record {
       going = start (given a) (a .args .t) (sound a) (a .pre .1);
       telling = subst⁻¹ (Telling (given a) (a .args .t) (given a)) (a .pre .4) (tell-start (given a) (a .args .t) (sound a));
-      size = refl;
-      first = c .next-due .ensures;
+      named = w .pending-word .ensures;
+      first = c .next-in-word .ensures (given a .counts) (w .pending-word .ensures) (λ i l k. omega arith) ∙ first-of-all (λ i. given a .now) (given a) (sound a);
     }
 
 -- ---- the next moment
@@ -98,7 +99,7 @@ abbrev Read : Type 0
 Read = tie.After-earlier-of Inv-loop μ-loop
 
 abbrev entry : Read → tie.Start Inv-loop μ-loop
-entry e = e .before .before .before .before .before .before .before .before .before .before .before .before .before
+entry e = e .before .before .before .before .before .before .before .before .before .before .before .before .before .before
 
 abbrev turn : Read → Turn
 turn e =
@@ -124,8 +125,9 @@ turn e =
       };
     }
 
-abbrev size : (e : Read) → turn e .state .header .n ≡ entry e .args .t1 .header .n
-size e = e .before .before .before .before .before .before .before .before .loop .inv .size
+-- the word of the threads that have something pending
+named : (e : Read) → PendingWord (turn e .state .counts) (e .before .before .before .before .before .before .before .before .loop .waiting)
+named e = e .before .before .before .before .before .before .before .before .loop .inv .named
 
 -- what is told so far, and the room for more
 abbrev told : Read → List ℕ
@@ -272,7 +274,7 @@ loop-again c =
           subst⁻¹ (Telling (turnOf d .origin) (turnOf d .to) _) (c .tell-quantum .ensures)
           (ended-told (turnOf d) (ticked d) (q .0) (eqb-true _ _ (q .1)) (o .before .before .with-full-quantum .result) (o .move-to-tail .result) _
           (o .before .before .with-full-quantum .ensures) (o .move-to-tail .ensures .1) (o .move-to-tail .ensures .0) _ (telling (d .before .before .before .before)));
-      size = size (d .before .before .before .before);
+      named = named (d .before .before .before .before);
       first = turnOf d .seen .first;
     }
 
@@ -377,41 +379,48 @@ count-after-requires c κs = fits (c .before .before .before .before .before .be
 element-write-s : tie.Need-element-write-s Inv-loop μ-loop
 element-write-s c = small (for (c .before .before .before .before .before .before .before))
 
+word-after-requires : tie.Need-word-after-requires Inv-loop μ-loop
+word-after-requires c κs = small (for (c .before .before .before .before .before .before .before))
+
 change-row-requires : tie.Need-change-row-requires Inv-loop μ-loop
-change-row-requires c κs = let o = c .before .before .before .before .before .before .before .before in (small (for o), omega (tests, turnOf (of (for o)) .going .mid .sizes), fits o)
+change-row-requires c κs = let o = c .before .before .before .before .before .before .before .before .before in (small (for o), omega (tests, turnOf (of (for o)) .going .mid .sizes), fits o)
 
 change-row-requires-2 : tie.Need-change-row-requires-2 Inv-loop μ-loop
-change-row-requires-2 c κs = let o = c .before .before .before .before .before .before .before .before .before .before in (small (for o), omega (tests, turnOf (of (for o)) .going .mid .sizes), fits o)
+change-row-requires-2 c κs = let o = c .before .before .before .before .before .before .before .before .before .before .before in (small (for o), omega (tests, turnOf (of (for o)) .going .mid .sizes), fits o)
 
 -- its effect is in place
 abbrev Written : Type 0
 Written = tie.After-change-row2 Inv-loop μ-loop
 
 abbrev ruling : Written → Ruled
-ruling c = c .before .before .before .before .before .before .before .before .before .before .before
+ruling c = c .before .before .before .before .before .before .before .before .before .before .before .before
 
 abbrev placed : (c : Written) → Put (stateOf (ruling c)) (for (ruling c) .concerned .result) (ruling c .effect-at .result)
 placed c =
     record {
-      number = c .before .before .before .before .before .before .before .before .narrow .result;
-      word = c .before .before .before .before .before .send .result;
-      thread = c .before .before .before .before .before .before .before .with-server .result;
-      count = c .before .before .before .before .count-after .result;
+      number = c .before .before .before .before .before .before .before .before .before .narrow .result;
+      word = c .before .before .before .before .before .before .send .result;
+      thread = c .before .before .before .before .before .before .before .before .with-server .result;
+      count = c .before .before .before .before .before .count-after .result;
       dues = _;
       amounts = _;
       lists = _;
-      number-is = c .before .before .before .before .before .before .before .before .narrow .ensures;
-      word-is = c .before .before .before .before .before .send .ensures .1;
-      thread-is = c .before .before .before .before .before .before .before .with-server .ensures;
-      count-is = c .before .before .before .before .count-after .ensures;
+      number-is = c .before .before .before .before .before .before .before .before .before .narrow .ensures;
+      word-is = c .before .before .before .before .before .before .send .ensures .1;
+      thread-is = c .before .before .before .before .before .before .before .before .with-server .ensures;
+      count-is = c .before .before .before .before .before .count-after .ensures;
       dues-is = c .before .before .change-row .ensures;
       amounts-is = c .change-row2 .ensures;
-      lists-is = c .before .before .before .before .before .send .ensures .0;
+      lists-is = c .before .before .before .before .before .before .send .ensures .0;
     }
 
 -- what is told before it
 abbrev heard : (c : Written) → Read
 heard c = of (for (ruling c)) .before .before .before .before
+
+-- the word with the new count
+waits : (c : Written) → PendingWord (putState _ _ _ (placed c) .counts) (c .before .before .before .before .word-after .result)
+waits c = let k = for (ruling c) in c .before .before .before .before .word-after .ensures (turnOf (of k) .state .counts) (omega (tests, small k, turnOf (of k) .going .mid .sizes)) (named (heard c))
 
 -- ---- after a limit
 
@@ -445,7 +454,7 @@ loop-again-2 c =
           subst⁻¹ (Telling (turnOf (of k) .origin) (turnOf (of k) .to) _) (c .before .before .tell-limit .ensures)
           (limit-told (turnOf (of k)) (ticked (of k)) (chosen k) (limited o) (is-limit (decided k)) (o .effect-at .result) (o .effect-at .ensures) (c .before .before .before .before .if3 .taken) (placed w) _
           (telling (heard w)));
-      size = size (of k .before .before .before .before);
+      named = waits w;
       first =
           limit-due (turnOf (of k)) (ticked (of k)) (chosen k) (limited o) (is-limit (decided k)) (o .effect-at .result) (o .effect-at .ensures) (c .before .before .before .before .if3 .taken) (placed w)
           (c .after-limit .result) (c .after-limit .ensures);
@@ -460,19 +469,15 @@ tell-back-requires c κs =
     let k = for o in
     (small k, tellable (heard w) (o .effect-at .result .back + 1) (omega (arith, return-small (turnOf (of k)) (ticked (of k)) (chosen k) (limited o) (is-limit (decided k)) (o .effect-at .result) (o .effect-at .ensures) (c .before .if3 .left))))
 
-next-due-from-requires : tie.Need-next-due-from-requires Inv-loop μ-loop
-next-due-from-requires c κs =
-    let w = c .before .before .before .before .before .before in
-    let k = for (ruling w) in
-    let n : entry (of k .before .before .before .before) .args .t1 .header .n ≤ 32 = omega (tests, size (of k .before .before .before .before), turnOf (of k) .going .mid .sizes) in
-    (n, λ i l p. put-later (turnOf (of k)) _ _ _ (placed w) (acted (ruling w)) i (omega arith) p)
+next-in-word-requires-2 : tie.Need-next-in-word-requires-2 Inv-loop μ-loop
+next-in-word-requires-2 c κs = tt
 
 loop-less-3 : tie.Need-loop-less-3 Inv-loop μ-loop
-loop-less-3 c = let w = c .before .before .before .before .before .before .before in put-falls (turnOf (of (for (ruling w)))) _ _ _ (placed w) (acted (ruling w))
+loop-less-3 c = let w = c .before .before .before .before .before in put-falls (turnOf (of (for (ruling w)))) _ _ _ (placed w) (acted (ruling w))
 
 loop-again-3 : tie.Need-loop-again-3 Inv-loop μ-loop
 loop-again-3 c =
-    let b = c .before .before .before .before in
+    let b = c .before .before in
     let w = b .before .before .before in
     let o = ruling w in
     let k = for o in
@@ -482,8 +487,8 @@ loop-again-3 c =
           subst⁻¹ (Telling (turnOf (of k) .origin) (turnOf (of k) .to) _) (b .tell-back .ensures)
           (return-told (turnOf (of k)) (ticked (of k)) (chosen k) (limited o) (is-limit (decided k)) (o .effect-at .result) (o .effect-at .ensures) (b .before .before .if3 .left) (placed w) _
           (telling (heard w)));
-      size = size (of k .before .before .before .before);
-      first = c .next-due-from .ensures ∙ ap (nextDue _ _) (sym (size (of k .before .before .before .before)));
+      named = waits w;
+      first = put-first (turnOf (of k)) _ _ _ (placed w) (acted o) _ (c .next-in-word2 .result) (waits w) (c .next-in-word2 .ensures);
     }
 
 pub advance-spec : {M : Type 1} → statement M
@@ -492,8 +497,8 @@ advance-spec =
     (tie.spec
     Inv-loop
     μ-loop
-    cast-n
-    next-due-requires
+    pending-word-requires
+    next-in-word-requires
     loop-holds
     highest-requires
     head-at-requires
@@ -538,6 +543,7 @@ advance-spec =
     send-requires
     count-after-requires
     element-write-s
+    word-after-requires
     change-row-requires
     change-row-requires-2
     tell-limit-requires
@@ -547,6 +553,6 @@ advance-spec =
     loop-less-2
     loop-again-2
     tell-back-requires
-    next-due-from-requires
+    next-in-word-requires-2
     loop-less-3
     loop-again-3)
