@@ -25,6 +25,16 @@ pub struct Event {
     pub parameters: Parameters,
 }
 
+/// An event with a reading of a counter in place of its time.
+#[repr(C)]
+#[derive(Clone, Copy, Debug, PartialEq, Eq)]
+pub struct CounterEvent {
+    pub reading: u32,
+    pub kind: u8,
+    pub thread: u8,
+    pub parameters: Parameters,
+}
+
 #[repr(C)]
 #[derive(Clone, Copy, Debug, Default, PartialEq, Eq)]
 pub struct Header {
@@ -214,6 +224,13 @@ mod exported {
             told: *mut u64,
             e: Event,
         ) -> Reply;
+        pub fn thawonlai_counter_event(
+            core: *mut Core,
+            dues: *mut u64,
+            amounts: *mut u64,
+            told: *mut u64,
+            e: CounterEvent,
+        ) -> Reply;
         pub fn thawonlai_open(
             header: Header,
             table: Table,
@@ -274,6 +291,17 @@ pub fn event(state: &mut State, told: &mut Told, e: Event) -> Reply {
     } = state;
     let (dues, amounts) = (dues.as_mut_ptr(), amounts.as_mut_ptr());
     unsafe { exported::thawonlai_event(core, dues, amounts, told.as_mut_ptr(), e) }
+}
+
+/// The same, at a reading of a counter.
+pub fn counter_event(state: &mut State, told: &mut Told, e: CounterEvent) -> Reply {
+    let State {
+        core,
+        dues,
+        amounts,
+    } = state;
+    let (dues, amounts) = (dues.as_mut_ptr(), amounts.as_mut_ptr());
+    unsafe { exported::thawonlai_counter_event(core, dues, amounts, told.as_mut_ptr(), e) }
 }
 
 pub fn open(start: u64, n: u32, table: Table) -> Answer {
@@ -438,6 +466,17 @@ impl From<model::Event> for Event {
     fn from(e: model::Event) -> Event {
         Event {
             time: e.time,
+            kind: e.kind,
+            thread: e.thread,
+            parameters: e.parameters.into(),
+        }
+    }
+}
+
+impl From<model::CounterEvent> for CounterEvent {
+    fn from(e: model::CounterEvent) -> CounterEvent {
+        CounterEvent {
+            reading: e.reading,
             kind: e.kind,
             thread: e.thread,
             parameters: e.parameters.into(),

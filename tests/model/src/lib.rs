@@ -22,7 +22,7 @@ mod text;
 mod trace;
 
 pub use check::{verdict, Verdict};
-pub use counter::{counter_event, elapsed, full_event, CounterEvent};
+pub use counter::{counter_event, counter_time, elapsed, CounterEvent};
 pub use counts::{counts, counts_text, Counts, Told, NOTHING_TOLD};
 pub use event::{event, event_told, next_moment, open, pass, running, Answer, Event};
 pub use search::{next_due, Dues};
