@@ -19,7 +19,7 @@ pub fn cases(option: &'static str, first: u64) -> impl Iterator<Item = Case> {
 }
 
 impl Case {
-    /// The case's generator: a stream of its own for each sort.
+    /// The case's generator: a stream of its own for each first letter of an option.
     pub fn random(&self) -> Random {
         let sort = self.option.as_bytes()[0] as u64;
         let mut mixed = Random::new(self.seed ^ (sort << 56));

@@ -111,6 +111,30 @@ pub struct NextDue {
     pub due: u64,
 }
 
+/// A thread's share: form 0 a share, 1 no time has passed, 2 refused. What doesn't apply is 0.
+#[repr(C)]
+#[derive(Clone, Copy, Debug)]
+pub struct Share {
+    pub form: u8,
+    pub status: u8,
+    pub share: f64,
+}
+
+/// The largest and the smallest share, in the same forms.
+#[repr(C)]
+#[derive(Clone, Copy, Debug)]
+pub struct ShareSummary {
+    pub form: u8,
+    pub status: u8,
+    pub largest_thread: u8,
+    pub smallest_thread: u8,
+    pub largest: f64,
+    pub smallest: f64,
+}
+
+/// The bytes that the lines of a trace's shares are written into.
+pub const SHARE_LINES: usize = 4096;
+
 /// An answer without the slots of its state, which are lent.
 #[repr(C)]
 #[derive(Clone, Copy)]
@@ -239,6 +263,18 @@ mod exported {
         ) -> Answered;
         pub fn thawonlai_sound(core: *const Core, dues: *const u64, amounts: *const u64) -> u8;
         pub fn thawonlai_next_due(counts: *const u8, dues: *const u64, n: u32) -> NextDue;
+        pub fn thawonlai_share(
+            core: *const Core,
+            dues: *const u64,
+            amounts: *const u64,
+            thread: u8,
+        ) -> Share;
+        pub fn thawonlai_share_summary(
+            core: *const Core,
+            dues: *const u64,
+            amounts: *const u64,
+        ) -> ShareSummary;
+        pub fn thawonlai_share_listing(file: *const u8, length: usize, out: *mut u8) -> usize;
         pub fn thawonlai_read(file: *const u8, length: usize) -> Found;
         pub fn thawonlai_copy(file: *const u8, length: usize, out: *mut u8, room: usize)
             -> Written;
@@ -319,6 +355,19 @@ pub fn sound(s: &State) -> u8 {
 pub fn next_due(counts: &[u8; THREADS], dues: &[u64], n: u32) -> NextDue {
     assert_eq!(dues.len(), THREADS * PENDING);
     unsafe { exported::thawonlai_next_due(counts.as_ptr(), dues.as_ptr(), n) }
+}
+
+pub fn share(s: &State, thread: u8) -> Share {
+    unsafe { exported::thawonlai_share(&s.core, s.dues.as_ptr(), s.amounts.as_ptr(), thread) }
+}
+
+pub fn share_summary(s: &State) -> ShareSummary {
+    unsafe { exported::thawonlai_share_summary(&s.core, s.dues.as_ptr(), s.amounts.as_ptr()) }
+}
+
+/// The lines of a trace's shares; how many bytes they are.
+pub fn share_listing(file: &[u8], out: &mut [u8; SHARE_LINES]) -> usize {
+    unsafe { exported::thawonlai_share_listing(file.as_ptr(), file.len(), out.as_mut_ptr()) }
 }
 
 pub fn read(file: &[u8]) -> Found {
@@ -421,6 +470,65 @@ impl From<Result<Option<(usize, u64)>, u8>> for NextDue {
             thread: thread as u8,
             due,
         }
+    }
+}
+
+impl From<Result<Option<f64>, u8>> for Share {
+    fn from(a: Result<Option<f64>, u8>) -> Share {
+        let (form, status, share) = match a {
+            Ok(Some(share)) => (0, 0, share),
+            Ok(None) => (1, 0, 0.0),
+            Err(status) => (2, status, 0.0),
+        };
+        Share {
+            form,
+            status,
+            share,
+        }
+    }
+}
+
+impl From<Result<Option<model::Summary>, u8>> for ShareSummary {
+    fn from(a: Result<Option<model::Summary>, u8>) -> ShareSummary {
+        let nothing = ShareSummary {
+            form: 0,
+            status: 0,
+            largest_thread: 0,
+            smallest_thread: 0,
+            largest: 0.0,
+            smallest: 0.0,
+        };
+        match a {
+            Ok(Some(sum)) => ShareSummary {
+                largest_thread: sum.largest_thread,
+                smallest_thread: sum.smallest_thread,
+                largest: sum.largest,
+                smallest: sum.smallest,
+                ..nothing
+            },
+            Ok(None) => ShareSummary { form: 1, ..nothing },
+            Err(status) => ShareSummary {
+                form: 2,
+                status,
+                ..nothing
+            },
+        }
+    }
+}
+
+/// Floats are the same where their bits are.
+impl PartialEq for Share {
+    fn eq(&self, other: &Share) -> bool {
+        let parts = |a: &Share| (a.form, a.status, a.share.to_bits());
+        parts(self) == parts(other)
+    }
+}
+
+impl PartialEq for ShareSummary {
+    fn eq(&self, other: &ShareSummary) -> bool {
+        let numbers = |a: &ShareSummary| [a.form, a.status, a.largest_thread, a.smallest_thread];
+        let floats = |a: &ShareSummary| [a.largest.to_bits(), a.smallest.to_bits()];
+        numbers(self) == numbers(other) && floats(self) == floats(other)
     }
 }
 

@@ -23,7 +23,7 @@ use coverage::Coverage;
 use std::process::exit;
 
 /// A sort of cases: the option that counts them, how many the short run has, and how they are run
-/// with that count from a first seed. The options differ in their first letter.
+/// with that count from a first seed. The options differ in their first letter, but for the last.
 struct Sort {
     option: &'static str,
     short: u64,

@@ -1,107 +1,106 @@
-//! Shares for the plot (02 E13).
+//! Shares for the plot (02 E13), and the lines of them at the end of a replay.
 
+use crate::decimal::decimal;
 use crate::event::{event, open};
+use crate::state::{sound, State};
+use crate::status;
 use crate::trace::read;
-use crate::{sound, status, State};
-
-/// What is asked of a thread.
-#[derive(Clone, Copy, Debug, PartialEq)]
-pub enum Share {
-    Of(f64),
-    /// 02 E13 2: where no time has passed there is no share.
-    NoTime,
-    Refused(u8),
-}
+use std::fmt::Write;
 
 /// 02 E13 3: the largest and the smallest share, and the thread of each.
 #[derive(Clone, Copy, Debug, PartialEq)]
 pub struct Summary {
-    pub largest: f64,
     pub largest_thread: u8,
-    pub smallest: f64,
+    pub largest: f64,
     pub smallest_thread: u8,
+    pub smallest: f64,
 }
 
-/// 02 E13 1: total and elapsed, each converted, and one division.
-fn part(total: u64, elapsed: u64) -> f64 {
-    total as f64 / elapsed as f64
+/// 02 E13 1: total and elapsed, each converted, and one division. Both are at most 10^15 in a sound
+/// state, below 2^53, so that they are converted exactly. 02 E13 2: None where no time has passed.
+fn quotient(s: &State, thread: usize) -> Option<f64> {
+    let (total, elapsed) = (s.threads[thread].total, s.now - s.start);
+    let exact = |ticks: u64| {
+        let float = ticks as f64;
+        assert_eq!(float as u128, u128::from(ticks));
+        float
+    };
+    if elapsed == 0 {
+        None
+    } else {
+        Some(exact(total) / exact(elapsed))
+    }
 }
 
-/// 02 E13 1, 2, 4.
-pub fn share(s: &State, thread: u8) -> Share {
+/// A thread's share of the elapsed time. 02 E13 4: 9; then 5 for a thread number >= N.
+pub fn share(s: &State, thread: u8) -> Result<Option<f64>, u8> {
     if !sound(s) {
-        return Share::Refused(status::UNSOUND);
+        return Err(status::UNSOUND);
     }
-    if thread as u32 >= s.n {
-        return Share::Refused(status::THREAD);
+    if u32::from(thread) >= s.n {
+        return Err(status::THREAD);
     }
-    match s.now - s.start {
-        0 => Share::NoTime,
-        elapsed => Share::Of(part(s.threads[thread as usize].total, elapsed)),
-    }
+    Ok(quotient(s, thread.into()))
 }
 
-/// 02 E13 3, 4: decided by the whole-number totals, the lowest number on a tie. None where no time
-/// has passed.
+/// 02 E13 3: decided by the whole-number totals, the lowest number on a tie; None where no time has
+/// passed. It asks for no thread, so that only 9 is left of the refusals.
 pub fn summary(s: &State) -> Result<Option<Summary>, u8> {
     if !sound(s) {
         return Err(status::UNSOUND);
     }
-    let elapsed = s.now - s.start;
-    if elapsed == 0 {
-        return Ok(None);
-    }
-    let totals: Vec<u64> = (0..s.n as usize).map(|i| s.threads[i].total).collect();
-    let first = |total: u64| totals.iter().position(|t| *t == total).unwrap();
-    let most = first(*totals.iter().max().unwrap());
-    let least = first(*totals.iter().min().unwrap());
-    Ok(Some(Summary {
-        largest: part(totals[most], elapsed),
-        largest_thread: most as u8,
-        smallest: part(totals[least], elapsed),
-        smallest_thread: least as u8,
+    let totals: Vec<u64> = s.threads[..s.n as usize].iter().map(|t| t.total).collect();
+    let lowest = |holds: &dyn Fn(u64, u64) -> bool| {
+        (0..totals.len())
+            .find(|&i| totals.iter().all(|&other| holds(totals[i], other)))
+            .expect("one of the totals bounds all of them")
+    };
+    let largest = lowest(&|own, other| own >= other);
+    let smallest = lowest(&|own, other| own <= other);
+    let both = quotient(s, largest).zip(quotient(s, smallest));
+    Ok(both.map(|(most, least)| Summary {
+        largest_thread: largest as u8,
+        largest: most,
+        smallest_thread: smallest as u8,
+        smallest: least,
     }))
 }
 
-/// The shares at the end of a replay: `share thread total elapsed share` for each thread, then
-/// `largest thread share` and `smallest thread share`. Where no time has passed the share is `none`
-/// and there is no summary. A file that can't be replayed gives the single line `refused n`.
-pub fn share_listing(file: &[u8]) -> Vec<u8> {
-    let refused = |status: u8| format!("refused {status}\n").into_bytes();
-    let trace = match read(file) {
-        Err(status) => return refused(status),
-        Ok(trace) => trace,
-    };
-    let (opening, mut s) = open(trace.start, trace.n, &trace.table());
-    if opening.status != status::ACCEPTED {
-        return refused(opening.status);
+/// The lines of the shares at the end of a file's replay; `refused n` for a file that can't be
+/// replayed. For each thread its number, its total, the elapsed time and its share, which is `none`
+/// where no time has passed; then, where some has, the summary's two lines (ours).
+pub fn share_listing(file: &[u8]) -> String {
+    match at_the_end(file) {
+        Ok(s) => lines(&s).expect("a text takes every line"),
+        Err(status) => format!("refused {status}\n"),
+    }
+}
+
+/// The state after all events of a file, the refused ones passed over.
+fn at_the_end(file: &[u8]) -> Result<State, u8> {
+    let trace = read(file)?;
+    let (answer, mut s) = open(trace.start, trace.n, &trace.table());
+    if answer.status != status::ACCEPTED {
+        return Err(answer.status);
     }
     for e in trace {
         event(&mut s, &e);
     }
-    let mut text = String::new();
-    for i in 0..s.n as u8 {
-        let total = s.threads[i as usize].total;
-        let share = match share(&s, i) {
-            Share::Of(x) => decimals(x),
-            _ => "none".to_string(),
-        };
-        text += &format!("share {i} {total} {} {share}\n", s.now - s.start);
-    }
-    if let Ok(Some(a)) = summary(&s) {
-        text += &format!("largest {} {}\n", a.largest_thread, decimals(a.largest));
-        text += &format!("smallest {} {}\n", a.smallest_thread, decimals(a.smallest));
-    }
-    text.into_bytes()
+    Ok(s)
 }
 
-/// 17 significant digits, correctly rounded, with as many places as they need; 0 is the digit 0.
-fn decimals(x: f64) -> String {
-    if x == 0.0 {
-        return "0".to_string();
+fn lines(s: &State) -> Result<String, std::fmt::Error> {
+    let mut text = String::new();
+    let elapsed = s.now - s.start;
+    for (i, t) in s.threads[..s.n as usize].iter().enumerate() {
+        let share = share(s, i as u8).expect("a thread of a sound state");
+        let share = share.map_or("none".to_owned(), decimal);
+        writeln!(text, "share {i} {} {elapsed} {share}", t.total)?;
     }
-    let scientific = format!("{x:.16e}");
-    let (_, exponent) = scientific.split_once('e').unwrap();
-    let below: usize = exponent.trim_start_matches('-').parse().unwrap();
-    format!("{x:.*}", 16 + below)
+    if let Some(sum) = summary(s).expect("a sound state") {
+        let (most, least) = (decimal(sum.largest), decimal(sum.smallest));
+        writeln!(text, "largest {} {most}", sum.largest_thread)?;
+        writeln!(text, "smallest {} {least}", sum.smallest_thread)?;
+    }
+    Ok(text)
 }
