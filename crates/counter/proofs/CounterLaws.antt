@@ -6,6 +6,7 @@ use mathlib.Core.List.{List, [], _∷_}
 use lib.Dec.{ltb}
 use native.Mathlib.Omega.{arith}
 use borrow.Author.Tests.{le-ltb}
+use Rattle.base.specs.Status.{notSound}
 use Rattle.base.specs.Refusals.{firstRefusal}
 use Rattle.base.proofs.TestLaws.{tests, same-test, cond-elim, cond-false}
 use Rattle.records.specs.declared.Event.{Event}
@@ -62,6 +63,11 @@ never-before now ticks = le-ltb (now + ticks) now (omega arith)
 
 same-step : (now ticks : ℕ) → ltb (now + longestStep) (now + ticks) ≡ ltb longestStep ticks
 same-step now ticks = same-test _ _ (λ e. omega (tests, e)) (λ e. omega (tests, e))
+
+-- 9 comes first, however long the step
+unsound-first : (s : State) (e : CounterEvent) → soundState s ≡ false → firstRefusal (refusals s e) ≡ notSound
+unfolding firstRefusal
+unsound-first s e a = simp a
 
 pub refused-in-order : RefusedInOrder
 unfolding status firstRefusal
