@@ -5,14 +5,14 @@
 ghost use mathlib.Core.Path.{_≡_};
 ghost use Rattle.state.specs.Updates.{whole};
 ghost use Rattle.shares.specs.Shares.{shareOf, summarizedOf};
-ghost use Rattle.shares.specs.Replies.{shareReply, summaryReply};
+ghost use Rattle.share_replies.specs.Replies.{shareReply, summaryReply};
 ghost use lib.ListN.{replicate};
 ghost use Rattle.text.specs.Placed.{Put};
 ghost use Rattle.share_listing.specs.ShareListing.{shareListing, largest};
 use rows::Slots;
 use share_listing::LARGEST;
-use shares::ShareReply;
-use shares::SummaryReply;
+use share_replies::ShareReply;
+use share_replies::SummaryReply;
 use state::Core;
 
 // The share of a thread in numbers, for a core by value.
@@ -20,7 +20,7 @@ fn share_numbers<'a>(c: Core, dues: &'a Slots, amounts: &'a Slots, thread: u8) -
     ensures { λ r. ⌜ r ≡ shareReply (shareOf (whole c (now (dues .entry)) (now (amounts .entry))) thread) ⌝ }
 {
     let x = shares::share_of(c, dues, amounts, thread);
-    shares::share_reply(x)
+    share_replies::share_reply(x)
 }
 
 // The share of a thread of a lent state.
@@ -41,7 +41,7 @@ fn summary_numbers<'a>(c: Core, dues: &'a Slots, amounts: &'a Slots) -> SummaryR
     ensures { λ r. ⌜ r ≡ summaryReply (summarizedOf (whole c (now (dues .entry)) (now (amounts .entry)))) ⌝ }
 {
     let x = shares::summary_of(c, dues, amounts);
-    shares::summary_reply(x)
+    share_replies::summary_reply(x)
 }
 
 // The largest and the smallest share of a lent state, and the thread of each.

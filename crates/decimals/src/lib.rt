@@ -103,7 +103,7 @@ fn spelt(l: Limbs) -> Decimals
 }
 
 // The decimals of a float.
-pub fn decimals_of(x: f64) -> Decimals
+fn decimals_of(x: f64) -> Decimals
     requires { ⌜ InUnit x ⌝ }
     ensures { λ r. ⌜ r ≡ decimalsOf (num x) (den x) ⌝ }
     ensures within { λ r. ⌜ Within r ⌝ }
@@ -113,7 +113,7 @@ pub fn decimals_of(x: f64) -> Decimals
 }
 
 // Digits in decimal, the last so many of them after a point.
-pub fn put_pointed(out: &mut [u8], at: usize, places: u64, digits: u64) -> usize
+fn put_pointed(out: &mut [u8], at: usize, places: u64, digits: u64) -> usize
     requires { ⌜ at + length (pointed places digits) ≤ length (now out) ⌝ }
     ensures { λ r. ⌜ Put (now (out .entry)) at (pointed places digits) (now (out .exit)) r ⌝ }
 {

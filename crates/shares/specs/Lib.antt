@@ -1,4 +1,3 @@
 -- What a reader of `shares` must believe. `Private` is cited by private functions alone.
 pub mod Shares
-pub mod Replies
 pub mod Private

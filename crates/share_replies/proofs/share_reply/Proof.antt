@@ -1,10 +1,10 @@
--- `shares::share_reply` meets its contract, variant by variant.
+-- `share_replies::share_reply` meets its contract, variant by variant.
 use mathlib.Core.Path.{sym, ap}
 use borrow.Author.Needs.{needs}
 use lib.Ieee.{ofBits}
-use Rattle.shares.specs.Replies.{shareReply}
-use Rattle.shares.proofs.share_reply.Statement.{statement}
-use Rattle.shares.proofs.share_reply.Tie as tie
+use Rattle.share_replies.specs.Replies.{shareReply}
+use Rattle.share_replies.proofs.share_reply.Statement.{statement}
+use Rattle.share_replies.proofs.share_reply.Tie as tie
 
 returns : tie.Need-returns
 returns c = sym (ap shareReply (c .before .x .given .1))

@@ -1,9 +1,9 @@
--- `shares::summary_reply` meets its contract, variant by variant.
+-- `share_replies::summary_reply` meets its contract, variant by variant.
 use mathlib.Core.Path.{sym, ap, _∙_}
 use borrow.Author.Needs.{needs}
-use Rattle.shares.specs.Replies.{summaryReply}
-use Rattle.shares.proofs.summary_reply.Statement.{statement}
-use Rattle.shares.proofs.summary_reply.Tie as tie
+use Rattle.share_replies.specs.Replies.{summaryReply}
+use Rattle.share_replies.proofs.summary_reply.Statement.{statement}
+use Rattle.share_replies.proofs.summary_reply.Tie as tie
 
 returns : tie.Need-returns
 returns c = sym (ap summaryReply (c .before .x .given .1))

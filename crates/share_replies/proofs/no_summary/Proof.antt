@@ -1,9 +1,9 @@
--- `shares::no_summary` meets its contract.
+-- `share_replies::no_summary` meets its contract.
 use mathlib.Core.Path.{refl}
 use lib.Ieee.{ofBits}
-use Rattle.shares.specs.Replies.{noSummary}
-use Rattle.shares.proofs.no_summary.Statement.{statement}
-use Rattle.shares.proofs.no_summary.Tie as tie
+use Rattle.share_replies.specs.Replies.{noSummary}
+use Rattle.share_replies.proofs.no_summary.Statement.{statement}
+use Rattle.share_replies.proofs.no_summary.Tie as tie
 
 returns : tie.Need-returns
 unfolding ofBits

@@ -3,9 +3,10 @@ use Prim.Native.Nat.{ℕ}
 use mathlib.Core.Bool.{false}
 use lib.IntN.{pos}
 use lib.Ieee as Ieee
-use Rattle.shares.specs.declared.{Share.Share, Summarized.Summarized, ShareReply.ShareReply, SummaryReply.SummaryReply}
+use Rattle.shares.specs.declared.{Share.Share, Summarized.Summarized}
 use Rattle.shares.specs.declared.Share.the-variants as share
 use Rattle.shares.specs.declared.Summarized.the-variants as summarized
+use Rattle.share_replies.specs.declared.{ShareReply.ShareReply, SummaryReply.SummaryReply}
 
 -- the float 0
 abbrev pub noShare : Ieee.Float

@@ -1,0 +1,2 @@
+-- What a reader of `share_replies` must believe.
+pub mod Replies
