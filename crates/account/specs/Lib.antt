@@ -2,3 +2,4 @@
 pub mod Account
 pub mod Rules
 pub mod Sound
+pub mod Carry

@@ -5,16 +5,16 @@ use lib.{ListN.getD, Dec.ltb, Dec.leb}
 use Rattle.records.specs.declared.Parameters.{Parameters}
 use Rattle.sporadic.specs.{declared.Server.Server, declared.Place.the-variants.Stays, declared.Effect.Effect, Rules.dueOf, Rules.blockEffect, Rules.wakeEffect, Rules.returnEffect}
 use Rattle.account.specs.declared.{Pending.Pending, Account.Account, Outcome.Outcome}
-pub use Rattle.entries.specs.Entries.{withoutFirst, countAfter, slotsAfter, Room}
+pub use Rattle.entries.specs.Entries.{withoutFirst, slotFor, inserted, countAfter, slotsAfter, Room}
 use Rattle.entries.specs.Entries.{entries}
 
--- what an Effect does to the pending entries
+-- what an Effect does to the pending entries: an entry that comes stands in due order, after those of equal due (02 E7 3)
 abbrev pub pendingAfter : Effect → Pending → Pending
 pendingAfter e q =
     record {
       count = countAfter (e .first) (e .amount) (q .count);
-      dues = slotsAfter (e .first) (e .amount) (q .count) (e .due) (q .dues);
-      amounts = slotsAfter (e .first) (e .amount) (q .count) (e .amount) (q .amounts);
+      dues = slotsAfter (e .first) (e .amount) (slotFor (e .due) (q .count) (q .dues)) (q .count) (e .due) (q .dues);
+      amounts = slotsAfter (e .first) (e .amount) (slotFor (e .due) (q .count) (q .dues)) (q .count) (e .amount) (q .amounts);
     }
 
 -- and to an account, and the answer of a rule: that account, and where the thread goes

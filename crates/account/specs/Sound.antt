@@ -1,8 +1,8 @@
 -- When an account is sound at a time: the tests of 01's list that speak of one sporadic thread's account.
 use Prim.Native.Nat.{ℕ, _+_}
 use mathlib.Core.{Bool.Bool, Bool.false, Bool.cond, List.List, List.[], List._∷_}
-use lib.{ListN.length, ListN.drop, Dec.ltb, Dec.leb, Dec.eqb}
-use Rattle.records.specs.declared.Parameters.{Parameters}
+use lib.{ListN.length, ListN.drop, Dec.leb, Dec.eqb}
+use Rattle.records.specs.{declared.Parameters.Parameters, Ranges.mostTicks}
 use Rattle.base.specs.Tests.{all, zeros}
 use Rattle.sporadic.specs.declared.Server.{Server}
 use Rattle.account.specs.{declared.Account.Account, Account.entries, Account.pendingDues, Account.pendingAmounts, Account.isUpper}
@@ -17,19 +17,18 @@ abbrev pub positive : List ℕ → List Bool
 positive [] = []
 positive (x ∷ xs) = leb 1 x ∷ positive xs
 
--- 01 State 12 and 14: dues strictly rise, the first of them after lo, and each is before hi
+-- 02 E7 4: dues don't fall; the first of them is at lo or later, and each is at hi or before
 abbrev pub dueTests : ℕ → ℕ → List ℕ → List Bool
 dueTests lo hi [] = []
-dueTests lo hi (d ∷ ds) = ltb lo d ∷ ltb d hi ∷ dueTests d hi ds
+dueTests lo hi (d ∷ ds) = leb lo d ∷ leb d hi ∷ dueTests d hi ds
 
 -- a runnable thread at its upper priority
 abbrev pub runsUpper : Bool → Parameters → Account → Bool
 runsUpper blocked p a = cond blocked false (isUpper p a)
 
--- 01 State 12 and 14: dues are before now + period; those of a runnable thread at its upper priority (`up`) before
--- activation + period, which is no later
-abbrev pub dueEnd : ℕ → Bool → Parameters → Server → ℕ
-dueEnd now up p s = cond up (s .activation) now + p .period
+-- 02 E7 4: the last time at which an entry may be due
+abbrev pub lastDue : ℕ → ℕ
+lastDue now = now + mostTicks
 
 -- 01 State 11 to 13: the count, U of a thread that is blocked or low, the activation time, and U against it
 abbrev pub numberTests : ℕ → ℕ → Bool → Parameters → Server → ℕ → List Bool
@@ -47,12 +46,12 @@ amountTests budget own xs = eqb (own + sum xs) budget ∷ positive xs
 abbrev pub slotTests : ℕ → List ℕ → List Bool
 slotTests count xs = eqb (length xs) entries ∷ zeros (drop count xs)
 
--- 01 State 9 to 14 and 17: what a sound account meets at a time
+-- 01 State 9 to 13 and 17, 02 E7 4: what a sound account meets at a time
 abbrev pub soundTests : ℕ → ℕ → Bool → Parameters → Account → List Bool
 soundTests start now blocked p a =
     all (numberTests start now (runsUpper blocked p a) p (a .server) (a .pending .count))
     ∷ all (amountTests (p .budget) (a .server .capacity + a .server .used) (pendingAmounts (a .pending)))
-    ∷ all (dueTests now (dueEnd now (runsUpper blocked p a) p (a .server)) (pendingDues (a .pending)))
+    ∷ all (dueTests (now + 1) (lastDue now) (pendingDues (a .pending)))
     ∷ all (slotTests (a .pending .count) (a .pending .dues))
     ∷ all (slotTests (a .pending .count) (a .pending .amounts))
     ∷ []

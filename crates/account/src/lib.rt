@@ -1,8 +1,11 @@
 // One sporadic account: a server and its pending entries. What a rule does to it is its Effect applied, by value. No thread, no list.
 ghost use mathlib.Core.Path.{_≡_};
+ghost use Prim.Native.Nat.{_<_};
 ghost use Rattle.entries.specs.Entries.{Room};
 ghost use Rattle.account.specs.Account.{unusedAccount, freshAccount, newAccount};
 ghost use Rattle.account.specs.Rules.{applied, outcome, Schedulable, blocking, waking};
+ghost use Rattle.account.specs.Carry.{carried, setAccount};
+ghost use Rattle.sporadic.specs.Carry.{Carryable};
 pub use entries::ENTRIES;
 pub use entries::count_after;
 use records::Parameters;
@@ -74,8 +77,8 @@ fn apply(e: Effect, a: Account) -> Account
     let amounts = q.amounts;
     let pending = Pending {
         count: entries::count_after(e.first, e.amount, q.count),
-        dues: entries::slots_after(dues, e.first, e.amount, q.count, e.due),
-        amounts: entries::slots_after(amounts, e.first, e.amount, q.count, e.amount),
+        dues: entries::slots_after(dues, e.first, e.amount, dues, e.due, q.count, e.due),
+        amounts: entries::slots_after(amounts, e.first, e.amount, dues, e.due, q.count, e.amount),
     };
     Account {
         server: server,
@@ -113,4 +116,31 @@ pub fn wake(p: Parameters, a: Account, blocked: bool, now: u64) -> Outcome
         sporadic::wake_effect(p, s, a.pending.count, blocked, now),
         a,
     )
+}
+
+// An account that is carried over to new parameters: the entries stay.
+fn carry(old: Parameters, new: Parameters, a: Account, blocked: bool, now: u64) -> Account
+    requires { ⌜ Carryable old new (a .server .capacity) ⌝ }
+    ensures { λ r. ⌜ r ≡ carried now blocked old new a ⌝ }
+{
+    let s = a.server;
+    let q = a.pending;
+    Account {
+        server: sporadic::carry_server(old, new, s, q.count, blocked, now),
+        pending: q,
+    }
+}
+
+// The account that a set gives: carried over where the thread was sporadic and stays so, else anew.
+pub fn set_account(old: Parameters, new: Parameters, a: Account, blocked: bool, now: u64) -> Account
+    requires { ⌜ (1 < old .policy → 1 < new .policy → Carryable old new (a .server .capacity)) ⌝ }
+    ensures { λ r. ⌜ r ≡ setAccount now blocked old new a ⌝ }
+{
+    if old.policy < 2 {
+        return new_account(new, now);
+    }
+    if new.policy < 2 {
+        return unused(0, 0);
+    }
+    carry(old, new, a, blocked, now)
 }

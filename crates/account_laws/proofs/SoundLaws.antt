@@ -3,10 +3,9 @@ use Prim.Native.Nat.{ℕ, zero, suc, _+_, _-_, _≤_, _<_, min}
 use mathlib.Core.Bool.{Bool, true, false, cond, _&&_}
 use mathlib.Core.Path.{_≡_, refl, sym, ap, _∙_, subst}
 use mathlib.Core.List.{List, [], _∷_, _++_}
-use lib.ListN.{length, take, drop, getD, set, length-set, length-append}
-use lib.Seq.{take-append-le, drop-append-le, take-suc-set, drop-set-lt, drop-drop}
+use lib.ListN.{length, take, drop, getD, length-append}
+use lib.Seq.{take-append-le, drop-append-le, drop-drop}
 use lib.Dec.{ltb, leb, eqb}
-use native.Mathlib.Numerals.{add-one}
 use native.Mathlib.Omega.{arith}
 use borrow.Author.Tests.{lt-ltb, le-ltb, ltb-true, leb-false, eq-eqb, ne-eqb}
 use Rattle.records.specs.declared.Parameters.{Parameters}
@@ -18,9 +17,12 @@ use Rattle.sporadic.specs.declared.Effect.{Effect}
 use Rattle.sporadic.specs.declared.Place.{Place}
 use Rattle.sporadic.specs.declared.Place.the-variants.{Stays, Low, LowThenUpper, Upper}
 use Rattle.account.specs.Account.{pendingDues, pendingAmounts, isUpper, firstDue, freshAccount}
-use Rattle.account.specs.Rules.{withoutFirst, applied, firstIsDue, returnFirst}
+use Rattle.account.specs.Rules.{withoutFirst, slotFor, inserted, applied, firstIsDue, returnFirst}
 use Rattle.sporadic.specs.Rules.{charged, dueOf, cleared, activated, pendingLater, backAtOnce, scheduled, limitEffect, blockEffect, wakeEffect, firstBack}
-use Rattle.account.specs.Sound.{sum, positive, dueTests, dueEnd, numberTests, amountTests, slotTests, runsUpper, soundTests, soundAt}
+use Rattle.account.specs.Sound.{sum, positive, dueTests, lastDue, numberTests, amountTests, slotTests, runsUpper, soundTests, soundAt}
+use Rattle.entries.proofs.InsertLaws.{slot-for, parts, inserted-part, inserted-rest, inserted-length}
+use Rattle.account.proofs.EntryLaws.{withEntry}
+use Rattle.account_laws.proofs.OrderLaws.{sum-among, positive-among, times-inserted}
 use Rattle.sporadic.proofs.ChargeLaws.{charge-sum}
 use Rattle.sporadic.proofs.EffectLaws.{schedule-elim, at-limit-elim, return-elim}
 
@@ -31,7 +33,7 @@ made s q = record { server = s; pending = q }
 pub record AccountSound (start now lo : ℕ) (up : Bool) (p : Parameters) (a : Account) : Type 0 where
   pub numbers : All (numberTests start now up p (a .server) (a .pending .count))
   pub sums : All (amountTests (p .budget) (a .server .capacity + a .server .used) (pendingAmounts (a .pending)))
-  pub times : All (dueTests lo (dueEnd now up p (a .server)) (pendingDues (a .pending)))
+  pub times : All (dueTests (lo + 1) (lastDue now) (pendingDues (a .pending)))
   pub dueSlots : All (slotTests (a .pending .count) (a .pending .dues))
   pub amountSlots : All (slotTests (a .pending .count) (a .pending .amounts))
 
@@ -43,7 +45,7 @@ module _ (start now : ℕ) (blocked : Bool) (p : Parameters) (a : Account) where
       record {
         numbers = all-true (numberTests start now (runsUpper blocked p a) p (a .server) (a .pending .count)) (h .0);
         sums = all-true (amountTests (p .budget) (a .server .capacity + a .server .used) (pendingAmounts (a .pending))) (h .1 .0);
-        times = all-true (dueTests now (dueEnd now (runsUpper blocked p a) p (a .server)) (pendingDues (a .pending))) (h .1 .1 .0);
+        times = all-true (dueTests (now + 1) (lastDue now) (pendingDues (a .pending))) (h .1 .1 .0);
         dueSlots = all-true (slotTests (a .pending .count) (a .pending .dues)) (h .1 .1 .1 .0);
         amountSlots = all-true (slotTests (a .pending .count) (a .pending .amounts)) (h .1 .1 .1 .1 .0);
       }
@@ -56,7 +58,7 @@ module _ (start now : ℕ) (blocked : Bool) (p : Parameters) (a : Account) where
         (
           true-all (amountTests (p .budget) (a .server .capacity + a .server .used) (pendingAmounts (a .pending))) (h .sums),
           (
-            true-all (dueTests now (dueEnd now (runsUpper blocked p a) p (a .server)) (pendingDues (a .pending))) (h .times),
+            true-all (dueTests (now + 1) (lastDue now) (pendingDues (a .pending))) (h .times),
             (
               true-all (slotTests (a .pending .count) (a .pending .dues)) (h .dueSlots),
               (true-all (slotTests (a .pending .count) (a .pending .amounts)) (h .amountSlots), tt),
@@ -68,32 +70,18 @@ module _ (start now : ℕ) (blocked : Bool) (p : Parameters) (a : Account) where
 -- ---- lists of dues and amounts
 
 -- another lower bound, before the first due
-times-from : (lo hi lo′ n : ℕ) (ds : List ℕ) → All (dueTests lo hi (take n ds))
-    → (0 < cond (eqb n 0) 0 (getD ds 0 0) → lo′ < cond (eqb n 0) 0 (getD ds 0 0)) → All (dueTests lo′ hi (take n ds))
+times-from : (lo hi lo′ n : ℕ) (ds : List ℕ) → All (dueTests (lo + 1) hi (take n ds))
+    → (0 < cond (eqb n 0) 0 (getD ds 0 0) → lo′ < cond (eqb n 0) 0 (getD ds 0 0)) → All (dueTests (lo′ + 1) hi (take n ds))
 times-from lo hi lo′ zero ds h q = tt
 times-from lo hi lo′ (suc n) [] h q = tt
 times-from lo hi lo′ (suc n) (d ∷ ds) h q =
     let r : 0 < d → lo′ < d = rw (ne-eqb (suc n) 0 (λ e. omega arith)) at q in
-    (lt-ltb lo′ d (r (omega (tests, h .0))), h .1)
+    (omega (tests, r (omega (tests, h .0))), h .1)
 
 -- a later end
 times-wider : (lo hi hi′ : ℕ) (ds : List ℕ) → hi ≤ hi′ → All (dueTests lo hi ds) → All (dueTests lo hi′ ds)
 times-wider lo hi hi′ [] l h = tt
 times-wider lo hi hi′ (d ∷ ds) l h = (h .0, (omega (tests, h .1 .0), times-wider d hi hi′ ds l (h .1 .1)))
-
--- one more due, at or after the old end
-times-more : (lo hi hi′ x : ℕ) (ds : List ℕ) → lo < x → hi ≤ x → x < hi′ → All (dueTests lo hi ds) → All (dueTests lo hi′ (ds ++ x ∷ []))
-times-more lo hi hi′ x [] l m n h = (lt-ltb lo x l, (lt-ltb x hi′ n, tt))
-times-more lo hi hi′ x (d ∷ ds) l m n h =
-    (h .0, (omega (tests, h .1 .0), times-more d hi hi′ x ds (omega (tests, h .1 .0)) m n (h .1 .1)))
-
-sum-more : (x : ℕ) (xs : List ℕ) → sum (xs ++ x ∷ []) ≡ sum xs + x
-sum-more x [] = omega arith
-sum-more x (y ∷ ys) = omega (arith, sum-more x ys)
-
-positive-more : (x : ℕ) (xs : List ℕ) → 0 < x → All (positive xs) → All (positive (xs ++ x ∷ []))
-positive-more x [] l h = omega tests
-positive-more x (y ∷ ys) l h = (h .0, positive-more x ys l (h .1))
 
 -- ---- time passes
 
@@ -105,15 +93,11 @@ module _ (start now lo : ℕ) (p : Parameters) (a : Account) where
         numbers = omega (tests, h .numbers);
         sums = h .sums;
         times =
-            times-from lo (dueEnd now′ up p (a .server)) lo′ (a .pending .count) (a .pending .dues)
-            (times-wider lo (dueEnd now up p (a .server)) (dueEnd now′ up p (a .server)) (pendingDues (a .pending)) (later up) (h .times)) q;
+            times-from lo (lastDue now′) lo′ (a .pending .count) (a .pending .dues)
+            (times-wider (lo + 1) (lastDue now) (lastDue now′) (pendingDues (a .pending)) (omega arith) (h .times)) q;
         dueSlots = h .dueSlots;
         amountSlots = h .amountSlots;
       }
-    where
-      later : (up : Bool) → dueEnd now up p (a .server) ≤ dueEnd now′ up p (a .server)
-      later true = omega arith
-      later false = omega arith
 
   -- ticks at the upper priority
   pub charge-sound : (k lo′ : ℕ) → AccountSound start now lo true p a → k ≤ a .server .capacity
@@ -123,7 +107,9 @@ module _ (start now lo : ℕ) (p : Parameters) (a : Account) where
       record {
         numbers = omega (tests, h .numbers);
         sums = rw (charge-sum k (a .server) l) (h .sums);
-        times = times-from lo (a .server .activation + p .period) lo′ (a .pending .count) (a .pending .dues) (h .times) q;
+        times =
+            times-from lo (lastDue (now + k)) lo′ (a .pending .count) (a .pending .dues)
+            (times-wider (lo + 1) (lastDue now) (lastDue (now + k)) (pendingDues (a .pending)) (omega arith) (h .times)) q;
         dueSlots = h .dueSlots;
         amountSlots = h .amountSlots;
       }
@@ -134,14 +120,10 @@ module _ (start now lo : ℕ) (p : Parameters) (a : Account) where
       record {
         numbers = omega (tests, h .numbers);
         sums = h .sums;
-        times = times-wider lo (dueEnd now up p (a .server)) (now + p .period) (pendingDues (a .pending)) (sooner up (h .numbers)) (h .times);
+        times = h .times;
         dueSlots = h .dueSlots;
         amountSlots = h .amountSlots;
       }
-    where
-      sooner : (up : Bool) → All (numberTests start now up p (a .server) (a .pending .count)) → dueEnd now up p (a .server) ≤ now + p .period
-      sooner true n = omega (tests, n)
-      sooner false n = omega arith
 
   -- the activation time becomes now
   pub activate-sound : AccountSound start now lo false p a → start ≤ now → AccountSound start now lo true p (made (activated now (a .server)) (a .pending))
@@ -149,42 +131,40 @@ module _ (start now lo : ℕ) (p : Parameters) (a : Account) where
 
   -- ---- U is scheduled
 
-  -- it is pending
-  later-is : 0 < a .server .used
-      → applied (pendingLater p (a .server)) a
-      ≡ made (cleared (a .server)) (record {
-        count = a .pending .count + 1;
-        dues = set (a .pending .dues) (a .pending .count) (dueOf p (a .server));
-        amounts = set (a .pending .amounts) (a .pending .count) (a .server .used);
-      })
+  -- it is pending, in due order
+  later-is : 0 < a .server .used → applied (pendingLater p (a .server)) a ≡ made (cleared (a .server)) (withEntry (dueOf p (a .server)) (a .server .used) (a .pending))
   later-is u = simp (ne-eqb (a .server .used) 0 (λ e. omega arith))
 
-  later-sound : AccountSound start now lo true p a → lo ≤ now → a .pending .count < p .«max_repl» → p .«max_repl» ≤ 8 → 0 < a .server .used
+  later-sound : AccountSound start now lo true p a → lo ≤ now → a .pending .count < p .«max_repl» → p .«max_repl» ≤ 8 → p .period ≤ 1000000000 → 0 < a .server .used
       → now < dueOf p (a .server)
       → AccountSound start now lo false p (applied (pendingLater p (a .server)) a)
-  later-sound h l m m8 u d =
+  later-sound h l m m8 mt u d =
       let t = dueOf p (a .server) in
       let x = a .server .used in
       let ds = a .pending .dues in
       let xs = a .pending .amounts in
       let n = a .pending .count in
-      let qd : take (n + 1) (set ds n t) ≡ take n ds ++ t ∷ [] = rw add-one (take-suc-set ds n t (omega (tests, h .dueSlots .0))) in
-      let qx : take (n + 1) (set xs n x) ≡ take n xs ++ x ∷ [] = rw add-one (take-suc-set xs n x (omega (tests, h .amountSlots .0))) in
+      let k = slotFor t n ds in
+      let kn = slot-for t n ds .within in
+      let ld : n < length ds = omega (tests, h .dueSlots .0) in
+      let lx : n < length xs = omega (tests, h .amountSlots .0) in
+      let s : All (positive (take k xs ++ take (n - k) (drop k xs))) = rw (parts k n x xs kn lx) at (h .sums .1) in
+      let e : sum (take n xs) ≡ sum (take k xs ++ take (n - k) (drop k xs)) = ap sum (parts k n x xs kn lx) in
       rw (later-is u)
       (record {
         numbers = omega (tests, h .numbers);
-        sums = rw (qx, sum-more x (take n xs)) (omega (tests, h .sums .0), positive-more x (take n xs) u (h .sums .1));
-        times =
-            rw qd
-            (times-more lo (a .server .activation + p .period) (now + p .period) t (take n ds) (omega arith) (omega arith) (omega (tests, h .numbers)) (h .times));
-        dueSlots = kept n ds t (h .dueSlots);
-        amountSlots = kept n xs x (h .amountSlots);
+        sums =
+            rw (inserted-part k n x xs kn lx, sum-among x (take k xs) (take (n - k) (drop k xs)))
+            (omega (tests, h .sums .0, e), positive-among x (take k xs) (take (n - k) (drop k xs)) u s);
+        times = times-inserted (lo + 1) (lastDue now) t n ds ld (h .times) (omega arith) (omega (tests, h .numbers));
+        dueSlots = kept k n ds t kn ld (h .dueSlots);
+        amountSlots = kept k n xs x kn lx (h .amountSlots);
       })
     where
-      kept : (n : ℕ) (xs : List ℕ) (x : ℕ) → All (slotTests n xs) → All (slotTests (n + 1) (set xs n x))
-      kept n xs x g = (
-        ap (λ (k : ℕ). eqb k 8) (length-set xs n x) ∙ g .0,
-        rw (drop-set-lt (n + 1) xs n x (omega arith) ∙ sym (drop-drop 1 n xs)) (zeros-drop 1 (drop n xs) (g .1)),
+      kept : (k n : ℕ) (xs : List ℕ) (x : ℕ) → k ≤ n → n < length xs → All (slotTests n xs) → All (slotTests (n + 1) (inserted k n x xs))
+      kept k n xs x kn l g = (
+        ap (λ (m : ℕ). eqb m 8) (inserted-length k n x xs kn l) ∙ g .0,
+        rw (inserted-rest k n x xs kn l ∙ sym (drop-drop 1 n xs)) (zeros-drop 1 (drop n xs) (g .1)),
       )
 
   -- it comes back at once
@@ -194,17 +174,17 @@ module _ (start now lo : ℕ) (p : Parameters) (a : Account) where
       record {
         numbers = omega (tests, h .numbers);
         sums = rw e (h .sums);
-        times = times-wider lo (a .server .activation + p .period) (now + p .period) (pendingDues (a .pending)) (omega (tests, h .numbers)) (h .times);
+        times = h .times;
         dueSlots = h .dueSlots;
         amountSlots = h .amountSlots;
       }
 
   -- whichever it is, the account is that of a thread that is blocked or low
-  pub schedule-sound : (up : Bool) → AccountSound start now lo up p a → lo ≤ now → p .«max_repl» ≤ 8
+  pub schedule-sound : (up : Bool) → AccountSound start now lo up p a → lo ≤ now → p .«max_repl» ≤ 8 → p .period ≤ 1000000000
       → (up ≡ true → a .pending .count < p .«max_repl») → AccountSound start now lo false p (applied (scheduled now p (a .server)) a)
-  schedule-sound up h l m8 m =
+  schedule-sound up h l m8 mt m =
       schedule-elim now p (a .server) (λ (e : Effect). AccountSound start now lo false p (applied e a)) (λ u. lower-sound up h u) (λ u d. once-sound (upper up u h))
-      (λ u d. later-sound (upper up u h) l (m (is up u h)) m8 u d)
+      (λ u d. later-sound (upper up u h) l (m (is up u h)) m8 mt u d)
     where
       -- what is charged is charged at the upper priority
       is : (up : Bool) → 0 < a .server .used → AccountSound start now lo up p a → up ≡ true
@@ -222,7 +202,7 @@ pub record Sent (start now lo : ℕ) (up : Bool) (p : Parameters) (x : Place) (a
   pub upper : isUpper p (applied e a) ≡ up
   pub place : e .place ≡ x
 
-upper-yes : (p : Parameters) (a : Account) → 0 < a .server .capacity → a .pending .count < p .«max_repl» → isUpper p a ≡ true
+pub upper-yes : (p : Parameters) (a : Account) → 0 < a .server .capacity → a .pending .count < p .«max_repl» → isUpper p a ≡ true
 upper-yes p a h l = simp (lt-ltb 0 (a .server .capacity) h, lt-ltb (a .pending .count) (p .«max_repl») l)
 
 upper-no : (p : Parameters) (a : Account) → a .server .capacity ≡ 0 → isUpper p a ≡ false
@@ -258,10 +238,10 @@ module _ (start now : ℕ) (p : Parameters) where
   module _ (lo : ℕ) (a : Account) where
     -- the limit, at its instant: a thread that was at its upper priority, with its capacity used up
     pub limit-sent : AccountSound start now lo true p a → 0 < a .server .used → a .server .capacity ≡ 0 → a .pending .count < p .«max_repl» → start ≤ now → lo ≤ now
-        → p .«max_repl» ≤ 8 → (P : Effect → Type 0) → ((e : Effect) → Sent start now lo true p LowThenUpper a e → P e)
+        → p .«max_repl» ≤ 8 → p .period ≤ 1000000000 → (P : Effect → Type 0) → ((e : Effect) → Sent start now lo true p LowThenUpper a e → P e)
         → ((e : Effect) → Sent start now lo false p Low a e → P e) → P (limitEffect now false p (a .server))
     unfolding limitEffect
-    limit-sent h u z m st l m8 P up low =
+    limit-sent h u z m st l m8 mt P up low =
         rw (eq-eqb (a .server .capacity) 0 z)
         (at-limit-elim now p (a .server) P (λ n. absurd (omega arith))
         (λ v d. up _ (record {
@@ -270,15 +250,15 @@ module _ (start now : ℕ) (p : Parameters) where
           place = refl;
         }))
         (λ v d. low _ (record {
-          sound = later-sound start now lo p a h l m m8 u d;
+          sound = later-sound start now lo p a h l m m8 mt u d;
           upper = upper-no p (applied (pendingLater p (a .server)) a) z;
           place = refl;
         })))
 
     -- a block: the thread stands in no list afterwards
-    pub block-sound : (up : Bool) → AccountSound start now lo up p a → lo ≤ now → p .«max_repl» ≤ 8
+    pub block-sound : (up : Bool) → AccountSound start now lo up p a → lo ≤ now → p .«max_repl» ≤ 8 → p .period ≤ 1000000000
         → (up ≡ true → a .pending .count < p .«max_repl») → AccountSound start now lo false p (applied (blockEffect now false p (a .server)) a)
-    block-sound up h l m8 m = schedule-sound start now lo p a up h l m8 m
+    block-sound up h l m8 mt m = schedule-sound start now lo p a up h l m8 mt m
 
     -- a wake of a blocked thread
     pub wake-upper : AccountSound start now lo false p a → start ≤ now → isUpper p a ≡ true
@@ -334,7 +314,7 @@ module _ (start now lo : ℕ) (up : Bool) (p : Parameters) (a : Account) (h : Ac
           record {
             numbers = omega (tests, h .numbers);
             sums = rw (m, pop-part n (a .pending .amounts) ls) (omega (tests, f, s .0), s .2);
-            times = rw (m, pop-part n (a .pending .dues) lt) (pop-times lo (dueEnd now up p (a .server)) n (a .pending .dues) lt (rw z at (h .times)));
+            times = rw (m, pop-part n (a .pending .dues) lt) (pop-times (lo + 1) (lastDue now) n (a .pending .dues) lt (rw z at (h .times)));
             dueSlots = rw m (pop-places n (a .pending .dues) lt (rw z at (h .dueSlots)));
             amountSlots = rw m (pop-places n (a .pending .amounts) ls (rw z at (h .amountSlots)));
           }
@@ -361,13 +341,13 @@ module _ (start now lo : ℕ) (up : Bool) (p : Parameters) (a : Account) (h : Ac
         amountSlots = h .amountSlots;
       }
     where
-      go : (n : ℕ) (ds : List ℕ) → (ltb 0 n && leb (getD ds 0 0) now) ≡ false → All (dueTests lo (dueEnd now up p (a .server)) (take n ds))
-          → All (dueTests now (dueEnd now up p (a .server)) (take n ds))
+      go : (n : ℕ) (ds : List ℕ) → (ltb 0 n && leb (getD ds 0 0) now) ≡ false → All (dueTests (lo + 1) (lastDue now) (take n ds))
+          → All (dueTests (now + 1) (lastDue now) (take n ds))
       go zero ds e t = tt
       go (suc n) [] e t = tt
       go (suc n) (d ∷ ds) e t =
           let f : leb d now ≡ false = rw (lt-ltb 0 (suc n) (omega arith)) at e in
-          (lt-ltb now d (leb-false d now f), t .1)
+          (omega (tests, leb-false d now f), t .1)
 
 -- what the return of the first entry leaves, and where it sends the thread
 pub data Returned (start now lo : ℕ) (blocked : Bool) (p : Parameters) (a : Account) (e : Effect) : Type 0 where

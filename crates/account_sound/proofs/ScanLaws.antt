@@ -8,7 +8,7 @@ use lib.Seq.{drop-cons}
 use lib.Dec.{eqb}
 use native.Mathlib.Numerals.{add-one}
 use native.Mathlib.Omega.{arith}
-use borrow.Author.Tests.{lt-ltb, le-ltb, le-leb, lt-leb, eq-eqb, ne-eqb, eqb-true, eqb-false}
+use borrow.Author.Tests.{le-leb, lt-leb, eq-eqb, ne-eqb, eqb-true, eqb-false}
 use Rattle.base.specs.Tests.{all, zeros}
 use lib.Bits.{bitOr}
 use Rattle.base.proofs.TestLaws.{all-false}
@@ -45,18 +45,18 @@ module _ (i : ℕ) (xs : List ℕ) (h : i < length xs) where
         (all-false (amountTests budget held (here ∷ rest)) 0 (ne-eqb (held + (here + sum rest)) budget (λ e. omega arith)))
 
   module _ (lo hi : ℕ) where
-    pub due-step : lo < getD xs i 0 → getD xs i 0 < hi
+    pub due-step : lo ≤ getD xs i 0 → getD xs i 0 ≤ hi
         → all (dueTests lo hi (drop i xs)) ≡ all (dueTests (getD xs i 0) hi (drop (i + 1) xs))
     unfolding all here rest
-    due-step g k = at-place (λ ys. all (dueTests lo hi ys)) (simp (lt-ltb lo here g, lt-ltb here hi k))
+    due-step g k = at-place (λ ys. all (dueTests lo hi ys)) (simp (le-leb lo here g, le-leb here hi k))
 
-    pub due-early : getD xs i 0 ≤ lo → all (dueTests lo hi (drop i xs)) ≡ false
+    pub due-early : getD xs i 0 < lo → all (dueTests lo hi (drop i xs)) ≡ false
     unfolding here rest
-    due-early g = at-place (λ ys. all (dueTests lo hi ys)) (all-false (dueTests lo hi (here ∷ rest)) 0 (le-ltb lo here g))
+    due-early g = at-place (λ ys. all (dueTests lo hi ys)) (all-false (dueTests lo hi (here ∷ rest)) 0 (lt-leb lo here g))
 
-    pub due-late : hi ≤ getD xs i 0 → all (dueTests lo hi (drop i xs)) ≡ false
+    pub due-late : hi < getD xs i 0 → all (dueTests lo hi (drop i xs)) ≡ false
     unfolding here rest
-    due-late g = at-place (λ ys. all (dueTests lo hi ys)) (all-false (dueTests lo hi (here ∷ rest)) 1 (le-ltb here hi g))
+    due-late g = at-place (λ ys. all (dueTests lo hi ys)) (all-false (dueTests lo hi (here ∷ rest)) 1 (lt-leb here hi g))
 
 pub amount-held : (budget held : ℕ) (xs : List ℕ) → budget < held → all (amountTests budget held xs) ≡ false
 amount-held budget held xs h = all-false (amountTests budget held xs) 0 (ne-eqb (held + sum xs) budget (λ e. omega arith))

@@ -44,7 +44,6 @@ pub fn sound_lent<'a>(
         return false;
     }
     let n = wide(count);
-    let base = tests::either(up, s.activation, time);
     if !tests::entries_hold(
         p.budget,
         s.capacity,
@@ -52,8 +51,6 @@ pub fn sound_lent<'a>(
         &amounts[..n],
         &dues[..n],
         time,
-        base,
-        p.period,
     ) {
         return false;
     }

@@ -1,12 +1,13 @@
 // What soundness asks of one account, for any contents: sums are compared by differences, so that none wraps.
 ghost use mathlib.Core.Path.{_≡_};
-ghost use Prim.Native.Nat.{_+_, _≤_};
+ghost use Prim.Native.Nat.{_+_};
 ghost use mathlib.Core.Bool.{cond};
 ghost use mathlib.Core.List.{[], _∷_};
 ghost use lib.ListN.{length};
 ghost use Rattle.base.specs.Tests.{all};
-ghost use Rattle.account.specs.Sound.{numberTests, amountTests, dueTests};
+ghost use Rattle.account.specs.Sound.{numberTests, amountTests, dueTests, lastDue};
 use account::ENTRIES;
+use records::MOST_TICKS;
 use records::Parameters;
 use sporadic::Server;
 
@@ -52,8 +53,8 @@ pub(super) fn numbers_hold(
     s.used <= now - s.activation
 }
 
-// The pending entries: the amounts are at least 1 and with capacity and U make the budget; the dues strictly rise, the first
-// after `after`, and are less than `period` after `base`. One pass over both.
+// The pending entries: the amounts are at least 1 and with capacity and U make the budget; the dues don't fall and lie after
+// `after` by at most MOST_TICKS. One pass over both.
 pub(super) fn entries_hold<'a>(
     budget: u64,
     capacity: u64,
@@ -61,11 +62,9 @@ pub(super) fn entries_hold<'a>(
     amounts: &'a [u64],
     dues: &'a [u64],
     after: u64,
-    base: u64,
-    period: u64,
 ) -> bool
-    requires { ⌜ (length (now amounts) ≡ length (now dues)) × (base ≤ after) ⌝ }
-    ensures { λ r. ⌜ r ≡ all (all (amountTests budget (capacity + used) (now (amounts .entry))) ∷ all (dueTests after (base + period) (now (dues .entry))) ∷ []) ⌝ }
+    requires { ⌜ length (now amounts) ≡ length (now dues) ⌝ }
+    ensures { λ r. ⌜ r ≡ all (all (amountTests budget (capacity + used) (now (amounts .entry))) ∷ all (dueTests (after + 1) (lastDue after) (now (dues .entry))) ∷ []) ⌝ }
 {
     if budget < capacity {
         return false;
@@ -89,11 +88,12 @@ pub(super) fn entries_hold<'a>(
         if d <= last {
             return false;
         }
-        if period <= d - base {
+        if MOST_TICKS < d - after {
             return false;
         }
         left = left - x;
-        last = d;
+        // the next one may be due at d too
+        last = d - 1;
     }
     left == 0
 }

@@ -325,11 +325,13 @@ fn entries_sound() {
     check(p, made(4, 0, 15, 1, 40, 6, 0, 0), true, 0, 39);
     check(p, made(4, 0, 15, 1, 40, 6, 0, 0), true, 0, 40);
     end_line();
-    title(b"dues before now + period, at upper before activation + period");
-    check(p, made(4, 0, 10, 1, 54, 6, 0, 0), true, 0, 15);
+    title(
+        b"dues at most 1,000,000,000 ticks after now, past now + period and past activation + period too",
+    );
     check(p, made(4, 0, 10, 1, 55, 6, 0, 0), true, 0, 15);
-    check(p, made(4, 0, 10, 1, 49, 6, 0, 0), false, 0, 15);
     check(p, made(4, 0, 10, 1, 50, 6, 0, 0), false, 0, 15);
+    check(p, made(4, 0, 10, 1, 1000000015, 6, 0, 0), true, 0, 15);
+    check(p, made(4, 0, 10, 1, 1000000016, 6, 0, 0), true, 0, 15);
     check(
         p,
         made(4, 0, 10, 1, 18446744073709551615, 6, 0, 0),
@@ -338,7 +340,7 @@ fn entries_sound() {
         15,
     );
     end_line();
-    title(b"dues strictly rise");
+    title(b"dues don't fall");
     check(p, made(2, 0, 15, 2, 40, 4, 41, 4), true, 0, 20);
     check(p, made(2, 0, 15, 2, 40, 4, 40, 4), true, 0, 20);
     check(p, made(2, 0, 15, 2, 41, 4, 40, 4), true, 0, 20);

@@ -47,3 +47,7 @@ wrongFiller = 13
 -- 02 E1: a line of a text is wrong, or a field does not fit a text
 abbrev pub wrongText : ℕ
 wrongText = 14
+
+-- 02 E7 9: the account can't be carried over
+abbrev pub notCarried : ℕ
+notCarried = 15

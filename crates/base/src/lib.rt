@@ -30,6 +30,8 @@ pub const WRONG_FILLER: u8 = 13;
 
 pub const WRONG_TEXT: u8 = 14;
 
+pub const NOT_CARRIED: u8 = 15;
+
 // A byte as an index.
 pub fn wide(x: u8) -> usize
     ensures { λ r. ⌜ r ≡ x ⌝ }

@@ -89,14 +89,14 @@ fields-never : (n : ℕ) (e : Event) → fieldStatusOf n e ≡ 1 → ⊥
 unfolding fieldStatusOf
 fields-never n e = never-given 1 _ (omega arith) ((λ z. omega arith), ((λ z. omega arith), ((λ z. omega arith), tt)))
 
-state-never : (kind : ℕ) (idle blocked : Bool) → stateStatusOf kind idle blocked ≡ 1 → ⊥
+state-never : (kind : ℕ) (idle blocked refused : Bool) → stateStatusOf kind idle blocked refused ≡ 1 → ⊥
 unfolding stateStatusOf
-state-never kind idle blocked = never-given 1 _ (omega arith) ((λ z. omega arith), ((λ z. omega arith), tt))
+state-never kind idle blocked refused = never-given 1 _ (omega arith) ((λ z. omega arith), ((λ z. omega arith), ((λ z. omega arith), tt)))
 
 pub never-before-now : NeverBeforeNow
 never-before-now s e z =
     never-given 1 (refusals s e) (omega arith)
-    ((λ x. omega arith), (fields-never _ _, ((λ x. omega arith), ((λ x. omega arith), (state-never _ _ _, tt)))))
+    ((λ x. omega arith), (fields-never _ _, ((λ x. omega arith), ((λ x. omega arith), (state-never _ _ _ _, tt)))))
     (sym (refused-in-order s e) ∙ z)
 
 -- ---- the code

@@ -12,7 +12,8 @@ use Rattle.records.specs.declared.Event.{Event}
 use Rattle.records.specs.Ranges.{inRange, allZero}
 use Rattle.base.proofs.TestLaws.{tests, cond-elim, cond-true, cond-false, false-true}
 use Rattle.account.specs.declared.Pending.{Pending}
-use Rattle.account.specs.Account.{newAccount}
+use Rattle.account.specs.Carry.{setAccount}
+use Rattle.sporadic.specs.Carry.{cantCarry}
 use Rattle.sporadic.specs.Rules.{atUpper}
 use Rattle.ready.specs.Word.{occupancy}
 use Rattle.ready.proofs.Soundness.{ListsSound}
@@ -23,7 +24,7 @@ use Rattle.state.specs.declared.State.{State}
 use Rattle.state.specs.State.{threadAt, pendingAt, accountAt, place}
 use Rattle.thread.specs.Thread.{isBlocked, assigned, placeOf, renewed, withServer}
 use Rattle.rows.proofs.RowLaws.{row-length}
-use Rattle.state.proofs.SoundLaws.{blocked-most, ThreadSound, Sound}
+use Rattle.state.proofs.SoundLaws.{ThreadSound, Sound}
 use Rattle.state.proofs.SoundLaws.ThreadSound.{absent, fifo, rr, sporadic}
 use Rattle.ticks.specs.Running.{level, head, idles}
 use Rattle.records.proofs.PolicyLaws.{by-zero, by-one, by-two}
@@ -33,7 +34,7 @@ use Rattle.moments.proofs.FireLaws.{bounds-same}
 use Rattle.events.specs.declared.Change.{Change}
 use Rattle.events.specs.Events.{changeOf, shifted, withChange, concerned, eventChange, happened}
 use Rattle.events.specs.Answers.{fieldStatusOf, stateStatusOf, fieldStatus, stateStatus}
-use Rattle.events.proofs.FitLaws.{Fits, block-fits, quantum-fits, wake-fits, set-fits}
+use Rattle.events.proofs.FitLaws.{Fits, block-fits, quantum-fits, wake-fits, renew-fits}
 
 -- a list's priority, or 0 for a place with no thread
 abbrev InLists : Bool → ℕ → Type 0
@@ -113,14 +114,23 @@ module _ (s : State) (h : Sound s) (e : Event) (f : fieldStatus s e ≡ 0) (g : 
         subst (λ (x : ℕ). cond (eqb x 4) (not (inRange 8 (e .parameters) && eqb (e .parameters .flag) 0)) (not (allZero (e .parameters))) ≡ false) z (c .0),
       )
 
+  -- whether the account of the thread that it names can't be carried over
+  abbrev cannot : Bool
+  cannot =
+      let t = threadAt s (e .thread) in
+      cantCarry (isBlocked t) (t .parameters) (e .parameters) (t .server .capacity) (getD (s .counts) (e .thread) 0)
+
   -- and the state, at its time
   pub state : (k : ℕ) → e .kind ≡ k → (cond (eqb k 1) (idles s) (eqb k 2 && idles s) ≡ false) × ((eqb k 3 && not (isBlocked (threadAt s (e .thread)))) ≡ false)
+      × (((eqb k 4 && (ltb 1 (threadAt s (e .thread) .parameters .policy) && ltb 1 (e .parameters .policy))) && cannot) ≡ false)
   unfolding stateStatusOf
   state k z =
       let a = passed _ 6 _ g in
-      let b = passed _ 7 _ (a .1) in (
+      let b = passed _ 7 _ (a .1) in
+      let c = passed _ 14 _ (b .1) in (
         subst (λ (x : ℕ). cond (eqb x 1) (idles s) (eqb x 2 && idles s) ≡ false) z (a .0),
         subst (λ (x : ℕ). (eqb x 3 && not (isBlocked (threadAt s (e .thread)))) ≡ false) z (b .0),
+        subst (λ (x : ℕ). ((eqb x 4 && (ltb 1 (threadAt s (e .thread) .parameters .policy) && ltb 1 (e .parameters .policy))) && cannot) ≡ false) z (c .0),
       )
 
   -- block and yield: something runs
@@ -191,13 +201,15 @@ module _ (s : State) (h : Sound s) (e : Event) (f : fieldStatus s e ≡ 0) (g : 
           let n : i < s .header .n = named 4 z refl in
           let m : i < 32 = omega (tests, h .sizes) in
           let r = and-both (inRange 8 p) (eqb (p .flag) 0) (not-false (inRange 8 p && eqb (p .flag) 0) (fields 4 z .2)) in
-          let w = blocked-most start (s .now) (s .now) _ (threadAt s i) (pendingAt s i) (h .each i m) in
+          let t = threadAt s i in
+          let there = lt-ltb i (s .header .n) n in
           record {
             small = m;
             from = refl;
             to = refl;
-            fits = subst⁻¹ (λ (b : Bool). Fits start (s .now) b (renewed p (threadAt s i)) (newAccount (s .now) p)) (lt-ltb i (s .header .n) n)
-                (set-fits start (s .now) (threadAt s i) p (omega (tests, h .sizes)) w (r .0) (eqb-true (p .flag) 0 (r .1)) .0);
+            fits = subst⁻¹ (λ (b : Bool). Fits start (s .now) b (renewed p t) (setAccount (s .now) (isBlocked t) (t .parameters) p (accountAt s i))) there
+                (renew-fits start (s .now) t (pendingAt s i) p (subst (λ (b : Bool). ThreadSound start (s .now) (s .now) b t (pendingAt s i)) there (h .each i m)) (omega (tests, h .sizes)) (r .0)
+                (eqb-true (p .flag) 0 (r .1)) (state 4 z .2));
             total = refl;
           }
       go (suc (suc (suc (suc (suc k))))) z l = absurd (omega (arith, ltb-false 4 (suc (suc (suc (suc (suc k))))) (fields (suc (suc (suc (suc (suc k))))) z .0)))

@@ -1,11 +1,12 @@
 -- A thread and an account, as each kind of event leaves them, fit a sound state.
-use Prim.Native.Nat.{ℕ, zero, suc, _≤_}
-use mathlib.Core.Bool.{Bool, true, false}
-use mathlib.Core.Path.{_≡_, refl, sym, ap, _∙_, subst, subst⁻¹}
+use Prim.Native.Nat.{ℕ, zero, suc, _≤_, _<_}
+use mathlib.Core.Bool.{Bool, true, false, _&&_}
+use mathlib.Core.Path.{_≡_, refl, sym, ap, ap₂, _∙_, subst, subst⁻¹}
 use mathlib.Core.List.{[], _∷_}
 use lib.ListN.{length}
-use lib.Dec.{leb}
+use lib.Dec.{ltb, leb}
 use native.Mathlib.Omega.{arith}
+use borrow.Author.Tests.{lt-ltb}
 use Rattle.records.specs.declared.Parameters.{Parameters}
 use Rattle.records.specs.Ranges.{byPolicy, inRange, fifoInRange, rrInRange, sporadicInRange}
 use Rattle.base.proofs.TestLaws.{tests, All, cond-true, cond-false, false-true}
@@ -15,12 +16,15 @@ use Rattle.sporadic.specs.declared.Place.{Place}
 use Rattle.sporadic.specs.declared.Place.the-variants.{Low, Upper}
 use Rattle.account.specs.Account.{isUpper, freshAccount, noAccount, newAccount}
 use Rattle.account.specs.Rules.{blocking, waking}
+use Rattle.account.specs.Carry.{carried, setAccount}
+use Rattle.sporadic.specs.Carry.{cantCarry}
 use Rattle.sporadic.specs.Rules.{wakeEffect}
 use Rattle.account.specs.Sound.{runsUpper}
 use Rattle.account_laws.proofs.SoundLaws.{AccountSound, Sent, block-sound, wake-upper, wake-low, fresh-sound, upper-room}
+use Rattle.account_laws.proofs.CarryLaws.{carry-sound}
 use Rattle.thread.specs.declared.Thread.{Thread}
 use Rattle.thread.specs.Thread.{isBlocked, assigned, fullQuantum, renewed, withBlocked, withServer}
-use Rattle.state.proofs.SoundLaws.{ThreadSound, range-out, fifo-out, rr-out, sporadic-out}
+use Rattle.state.proofs.SoundLaws.{ThreadSound, blocked-most, range-out, fifo-out, rr-out, sporadic-out}
 use Rattle.state.proofs.SoundLaws.ThreadSound.{absent, fifo, rr, sporadic}
 use Rattle.records.proofs.PolicyLaws.{by-zero, by-one, by-two}
 use Rattle.events.specs.Events.{ifSporadic}
@@ -42,7 +46,7 @@ module _ (start now : ℕ) (b : Bool) (t : Thread) (q : Pending) (d : length (q 
       subst⁻¹ (Fits start now b (withBlocked 1 t)) (by-one (t .parameters .policy) _ _ _ z) (record { dues = d; amounts = m; sound = rr n z (omega (tests, h)) l v f })
   block-fits (sporadic n z h l v) w p a g =
       let k = block-sound start now (t .parameters) now (record { server = t .server; pending = q })
-      (runsUpper (isBlocked t) (t .parameters) (record { server = t .server; pending = q })) v (omega arith) (omega (tests, h))
+      (runsUpper (isBlocked t) (t .parameters) (record { server = t .server; pending = q })) v (omega arith) (omega (tests, h)) (omega (tests, h))
       (λ u. upper-room (t .parameters) (record { server = t .server; pending = q }) (sym (cond-false (isBlocked t) false _ w) ∙ u) .1) in
       subst⁻¹ (Fits start now b (withBlocked 1 t)) (by-two (t .parameters .policy) _ _ _ z)
       (record { dues = omega (tests, k .dueSlots .0); amounts = omega (tests, k .amountSlots .0); sound = sporadic n z (omega (tests, h)) l k })
@@ -134,3 +138,60 @@ set-fits start now t p l w r f = go (p .policy) refl (range-out p r)
           g .1,
         )
     go (suc (suc (suc c))) z g = absurd (omega (arith, g .2))
+
+-- ---- a set
+
+-- what isn't refused of two policies that are sporadic
+pub carries-if : (a b : ℕ) (x : Bool) → 1 < a → 1 < b → ((ltb 1 a && ltb 1 b) && x) ≡ false → x ≡ false
+carries-if a b x l m e = sym (ap₂ (λ (v w : Bool). (v && w) && x) (lt-ltb 1 a l) (lt-ltb 1 b m)) ∙ e
+
+module _ (start now : ℕ) (t : Thread) (q : Pending) (p : Parameters) where
+  abbrev its : Account
+  its = record { server = t .server; pending = q }
+
+  -- what a set doesn't refuse: the account of a sporadic thread can be carried over to sporadic parameters
+  abbrev pub Carried : Type 0
+  Carried = ((ltb 1 (t .parameters .policy) && ltb 1 (p .policy)) && cantCarry (isBlocked t) (t .parameters) p (t .server .capacity) (q .count)) ≡ false
+
+  -- of a sporadic thread to sporadic: its account is carried over
+  carry-fits : t .blocked ≤ 1 → inRange 8 p ≡ true → p .flag ≡ 0 → p .policy ≡ 2
+      → AccountSound start now now (runsUpper (isBlocked t) (t .parameters) its) (t .parameters) its
+      → cantCarry (isBlocked t) (t .parameters) p (t .server .capacity) (q .count) ≡ false
+      → Fits start now true (renewed p t) (carried now (isBlocked t) (t .parameters) p its)
+  carry-fits w r f y v c =
+      let g = range-out p r in
+      let h = sporadic-out p (sym (by-two (p .policy) (fifoInRange p) (rrInRange p) (sporadicInRange 8 p) y) ∙ g .3) in
+      let k = carry-sound now (isBlocked t) (t .parameters) p its start v c in
+      record {
+        dues = omega (tests, k .dueSlots .0);
+        amounts = omega (tests, k .amountSlots .0);
+        sound = sporadic refl y (omega (tests, h, g .0, g .1, f)) (by-two (p .policy) _ _ _ y) k;
+      }
+
+  -- of any thread to any parameters
+  pub renew-fits : ThreadSound start now now true t q → start ≤ now → inRange 8 p ≡ true → p .flag ≡ 0 → Carried
+      → Fits start now true (renewed p t) (setAccount now (isBlocked t) (t .parameters) p its)
+  renew-fits h l r f c = go h
+    where
+      w : t .blocked ≤ 1
+      w = blocked-most start now now true t q h
+
+      anew : Fits start now true (renewed p t) (newAccount now p)
+      anew = set-fits start now t p l w r f .0
+
+      goal : Account → Type 0
+      goal = Fits start now true (renewed p t)
+
+      go : ThreadSound start now now true t q → goal (setAccount now (isBlocked t) (t .parameters) p its)
+      go (absent n e x) = false-true (sym n)
+      go (fifo n z g k v x) = subst⁻¹ goal (by-zero (t .parameters .policy) _ _ _ z) anew
+      go (rr n z g k v x) = subst⁻¹ goal (by-one (t .parameters .policy) _ _ _ z) anew
+      go (sporadic n z g k v) =
+          subst⁻¹ goal (by-two (t .parameters .policy) _ _ _ z)
+          (by (p .policy) refl (range-out p r .2))
+        where
+          by : (d : ℕ) → p .policy ≡ d → p .policy ≤ 2 → goal (byPolicy (p .policy) noAccount noAccount (carried now (isBlocked t) (t .parameters) p its))
+          by zero y m = subst⁻¹ goal (by-zero (p .policy) _ _ _ y) (subst goal (by-zero (p .policy) _ _ _ y) anew)
+          by (suc zero) y m = subst⁻¹ goal (by-one (p .policy) _ _ _ y) (subst goal (by-one (p .policy) _ _ _ y) anew)
+          by (suc (suc zero)) y m = subst⁻¹ goal (by-two (p .policy) _ _ _ y) (carry-fits w r f y v (carries-if (t .parameters .policy) (p .policy) _ (omega (arith, z)) (omega (arith, y)) c))
+          by (suc (suc (suc d))) y m = absurd (omega arith)

@@ -1,12 +1,13 @@
 -- The answer to an event, as the machine that `passing` speaks of.
 use Prim.Native.Nat.{ℕ}
 use mathlib.Core.{Bool.Bool, Bool.cond, Bool.not, Bool._&&_, List.[], List._∷_}
-use lib.Dec.{ltb, leb, eqb}
+use lib.{ListN.getD, Dec.ltb, Dec.leb, Dec.eqb}
 use Rattle.records.specs.{declared.Event.Event, Ranges.mostReplenishments, Ranges.lastTime, Ranges.longestStep, Ranges.inRange, Ranges.allZero, Ranges.noParameters}
-use Rattle.base.specs.{Status.wrongKind, Status.wrongThread, Status.wrongParameters, Status.nothingRuns, Status.notBlocked, Refusals.firstRefusal}
+use Rattle.base.specs.{Status.wrongKind, Status.wrongThread, Status.wrongParameters, Status.nothingRuns, Status.notBlocked, Status.notCarried, Refusals.firstRefusal}
 use Rattle.passing.specs.Sequence.{Machine}
 use Rattle.state.specs.{declared.State.State, State.threadAt, Sound.soundState}
-use Rattle.thread.specs.Thread.{isBlocked}
+use Rattle.sporadic.specs.Carry.{cantCarry}
+use Rattle.thread.specs.{declared.Thread.Thread, Thread.isBlocked}
 use Rattle.ticks.specs.Running.{idles, running}
 use Rattle.moments.specs.Moments.{clock}
 use Rattle.events.specs.Events.{happened}
@@ -33,13 +34,23 @@ fieldStatusOf n e = firstRefusal ((badKind e, wrongKind) ∷ (badThread n e, wro
 abbrev pub fieldStatus : State → Event → ℕ
 fieldStatus s e = fieldStatusOf (s .header .n) e
 
--- 01 Status 8 and 9: block or yield and nothing runs; wake of a thread that isn't blocked
-unfoldable pub stateStatusOf : ℕ → Bool → Bool → ℕ
-stateStatusOf kind idle blocked =
-    firstRefusal ((cond (eqb kind 1) idle (eqb kind 2 && idle), nothingRuns) ∷ (eqb kind 3 && not blocked, notBlocked) ∷ [])
+-- 02 E7 2: a set to sporadic of a thread already sporadic
+abbrev pub carriesOver : Event → Thread → Bool
+carriesOver e t = eqb (e .kind) 4 && (ltb 1 (t .parameters .policy) && ltb 1 (e .parameters .policy))
+
+-- 02 E7 9: such a set of a thread with `count` entries pending, whose account can't be carried over
+abbrev pub refusesCarry : Event → Thread → ℕ → Bool
+refusesCarry e t count = carriesOver e t && cantCarry (isBlocked t) (t .parameters) (e .parameters) (t .server .capacity) count
+
+-- 01 Status 8 and 9: block or yield and nothing runs; wake of a thread that isn't blocked. 02 E7 9: then 15
+unfoldable pub stateStatusOf : ℕ → Bool → Bool → Bool → ℕ
+stateStatusOf kind idle blocked refused =
+    firstRefusal ((cond (eqb kind 1) idle (eqb kind 2 && idle), nothingRuns) ∷ (eqb kind 3 && not blocked, notBlocked) ∷ (refused, notCarried) ∷ [])
 
 abbrev pub stateStatus : State → Event → ℕ
-stateStatus s e = stateStatusOf (e .kind) (idles s) (isBlocked (threadAt s (e .thread)))
+stateStatus s e =
+    let t = threadAt s (e .thread) in
+    stateStatusOf (e .kind) (idles s) (isBlocked t) (refusesCarry e t (getD (s .counts) (e .thread) 0))
 
 -- 01 Readings 6: an extra clock reading: kind 0, and every other field 0
 abbrev pub reading : ℕ → Event

@@ -3,9 +3,9 @@ use Prim.Native.Nat.{ℕ, zero, suc}
 use mathlib.Core.{Bool.true, Bool.false, Bool.cond, List.List}
 use lib.Dec.{leb, eqb}
 use Rattle.records.specs.{declared.Parameters.Parameters, declared.Event.Event, Ranges.byPolicy, Kinds.byKind}
-use Rattle.account.specs.{declared.Account.Account, Account.newAccount, Rules.blocking, Rules.waking}
+use Rattle.account.specs.{declared.Account.Account, Rules.blocking, Rules.waking, Carry.setAccount}
 use Rattle.ready.specs.Lists.{appended, removed, moved}
-use Rattle.thread.specs.{declared.Thread.Thread, Thread.placeOf, Thread.withBlocked, Thread.withServer, Thread.fullQuantum, Thread.renewed}
+use Rattle.thread.specs.{declared.Thread.Thread, Thread.isBlocked, Thread.placeOf, Thread.withBlocked, Thread.withServer, Thread.fullQuantum, Thread.renewed}
 use Rattle.state.specs.{declared.State.State, State.threadAt, State.accountAt, Updates.withLists, Updates.withAccount}
 use Rattle.ticks.specs.Running.{head}
 use Rattle.events.specs.declared.Change.{Change}
@@ -31,8 +31,9 @@ changeOf kind now p t a =
     (becomes t a (fullQuantum t) a)
     -- 01 Events 5, wake: the tail of its assigned list, with a full quantum; at the upper priority a sporadic one's activation time is now
     (becomes t a (withBlocked 0 (fullQuantum t)) (ifSporadic t (waking now true (t .parameters) a .account) a))
-    -- 01 Events 6, set: everything anew; a runnable one becomes the tail of its new list
-    (becomes t a (renewed p t) (newAccount now p))
+    -- 01 Events 6, set: everything anew, but a sporadic thread that stays one keeps its account (02 E7 2); a runnable one becomes the tail
+    -- of the list of the priority that is then assigned (02 E7 6)
+    (becomes t a (renewed p t) (setAccount now (isBlocked t) (t .parameters) p a))
 
 -- thread k leaves list `from` and becomes the tail of list `to`, 0 for none
 abbrev pub shifted : ℕ → ℕ → ℕ → List ℕ → List ℕ

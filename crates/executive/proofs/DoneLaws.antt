@@ -1,16 +1,17 @@
 -- The change of the thread that an event concerns, as the code puts it into the state, is what the event does; and the lists allow it.
 use Prim.Native.Nat.{ℕ, _<_}
 use mathlib.Core.Bool.{Bool, true, false, cond}
-use mathlib.Core.Path.{_≡_, refl, sym, ap, _∙_}
+use mathlib.Core.Path.{_≡_, refl, sym, ap, _∙_, subst⁻¹}
 use mathlib.Core.List.{List}
 use lib.ListN as lists
 use lib.Dec.{leb, eqb}
 use native.Mathlib.Omega.{arith}
-use borrow.Author.Tests.{eq-eqb, ne-eqb, leb-true}
+use borrow.Author.Tests.{eq-eqb, ne-eqb, leb-true, ltb-false, lt-leb}
 use Rattle.records.specs.declared.Event.{Event}
 use Rattle.base.proofs.TestLaws.{cond-true, cond-false}
 use Rattle.account.specs.declared.Pending.{Pending}
 use Rattle.account.specs.Rules.{Schedulable}
+use Rattle.sporadic.specs.Carry.{Carryable}
 use Rattle.ready.specs.Lists.{headOf}
 use Rattle.ready.specs.Word.{occupancy}
 use Rattle.ready.specs.Rules.{Leavable, Joinable, Movable}
@@ -27,9 +28,9 @@ use Rattle.ticks.specs.Running.{level, head, idles}
 use Rattle.events.specs.declared.Change.{Change}
 use Rattle.events.specs.Events.{changeOf, shifted, withChange, concerned, eventChange, happened}
 use Rattle.events.specs.Answers.{fieldStatus, stateStatus}
-use Rattle.events.proofs.EventLaws.{Right, to-most, busy, change-right}
+use Rattle.events.proofs.EventLaws.{Right, to-most, fields, busy, change-right}
 use Rattle.state.proofs.UpdateLaws.{put-is, lists-are}
-use Rattle.executive.proofs.RequiresLaws.{block-requires}
+use Rattle.executive.proofs.RequiresLaws.{block-requires, carry-requires}
 
 pub happened-none : (s : State) (e : Event) → e .kind ≡ 0 → s ≡ happened s e
 unfolding happened
@@ -70,6 +71,14 @@ module _ (s : State) (e : Event) (n j : ℕ) (v : Concerns s e n j) where
   module _ (q : Pending) (eq : q ≡ pendingAt s j) where
     pub change-requires : e .kind ≡ 1 → 1 < threadAt s j .parameters .policy → Schedulable (threadAt s j .parameters) (threadAt s j .server) (q .count)
     change-requires z = block-requires s (v .sound) j change-small q eq
+
+    pub set-requires : 3 < e .kind → 1 < threadAt s j .parameters .policy → 1 < e .parameters .policy
+        → Carryable (threadAt s j .parameters) (e .parameters) (threadAt s j .server .capacity)
+    set-requires l =
+        let k : e .kind ≡ 4 = omega (arith, ltb-false 4 (e .kind) (fields s (state-out s (v .sound)) e (v .fields) (v .allows) (e .kind) refl .0)) in
+        let i : j ≡ e .thread = v .there ∙ v .who ∙ cond-false (leb (e .kind) 2) (head s) (e .thread) (lt-leb (e .kind) 2 (omega arith)) in
+        subst⁻¹ (λ (x : ℕ). 1 < threadAt s x .parameters .policy → 1 < e .parameters .policy → Carryable (threadAt s x .parameters) (e .parameters) (threadAt s x .server .capacity)) i
+        (carry-requires s (v .sound) e (v .fields) (v .allows) k (omega (arith, i, change-small)))
 
     module _ (c : Change) (ec : c ≡ changeOf (e .kind) (s .now) (e .parameters) (threadAt s j) (record { server = threadAt s j .server; pending = q })) where
       given : c ≡ eventChange s e

@@ -1,13 +1,14 @@
 -- Time leaves every thread blocked or runnable as it was, so it also leaves whether any thread runs: an event that the state
 -- refuses at its time is refused before time passes.
 use Prim.Native.Nat.{ℕ, zero, suc, _≤_, _<_}
-use mathlib.Core.Bool.{Bool, true, false, cond}
+use mathlib.Core.Bool.{Bool, true, false, cond, _&&_}
 use mathlib.Core.Path.{_≡_, refl, sym, ap, ap₂, _∙_}
 use mathlib.Core.List.{List, [], _∷_}
 use lib.ListN.{getD, set}
 use lib.Dec.{eqb, ltb}
 use native.Mathlib.Omega.{arith}
 use borrow.Author.Tests.{eqb-true, eqb-false, ltb-true}
+use Rattle.records.specs.declared.Parameters.{Parameters}
 use Rattle.records.specs.declared.Header.{Header}
 use Rattle.records.specs.declared.Event.{Event}
 use Rattle.base.proofs.TestLaws.{cond-false}
@@ -26,28 +27,38 @@ use Rattle.moments.specs.Moments.{clock, passed}
 use Rattle.moments.proofs.FireLaws.{keeps-fire, header-fire}
 use Rattle.moments.proofs.ChargeLaws.{runs}
 use Rattle.moments.proofs.MomentLaws.{passing}
-use Rattle.events.specs.Answers.{stateStatusOf, stateStatus}
+use Rattle.events.specs.Answers.{carriesOver, stateStatusOf}
 use Rattle.events.proofs.EventLaws.{there-some}
 
--- another thread at one place, blocked as the one before it: so is every thread
-set-blocked : (ts : List Thread) (i : ℕ) (t : Thread) (k : ℕ) → t .blocked ≡ getD ts i noThread .blocked → getD (set ts i t) k noThread .blocked ≡ getD ts k noThread .blocked
-set-blocked [] i t k e = refl
-set-blocked (u ∷ ts) zero t zero e = e
-set-blocked (u ∷ ts) zero t (suc k) e = refl
-set-blocked (u ∷ ts) (suc i) t zero e = refl
-set-blocked (u ∷ ts) (suc i) t (suc k) e = set-blocked ts i t k e
+-- another thread at one place, with the same part f as the one before it: so has every thread
+module _ {A : Type 0} (f : Thread → A) where
+  set-same : (ts : List Thread) (i : ℕ) (t : Thread) (k : ℕ) → f t ≡ f (getD ts i noThread) → f (getD (set ts i t) k noThread) ≡ f (getD ts k noThread)
+  set-same [] i t k e = refl
+  set-same (u ∷ ts) zero t zero e = e
+  set-same (u ∷ ts) zero t (suc k) e = refl
+  set-same (u ∷ ts) (suc i) t zero e = refl
+  set-same (u ∷ ts) (suc i) t (suc k) e = set-same ts i t k e
 
--- the same where the change is made in one of two cases
-choose-blocked : (b : Bool) (ts : List Thread) (i : ℕ) (t : Thread) (k : ℕ) → t .blocked ≡ getD ts i noThread .blocked
-    → getD (cond b ts (set ts i t)) k noThread .blocked ≡ getD ts k noThread .blocked
-choose-blocked true ts i t k e = refl
-choose-blocked false ts i t k e = set-blocked ts i t k e
+  -- the same where the change is made in one of two cases
+  choose-same : (b : Bool) (ts : List Thread) (i : ℕ) (t : Thread) (k : ℕ) → f t ≡ f (getD ts i noThread)
+      → f (getD (cond b ts (set ts i t)) k noThread) ≡ f (getD ts k noThread)
+  choose-same true ts i t k e = refl
+  choose-same false ts i t k e = set-same ts i t k e
 
 blocked-kept : (s : State) (t k : ℕ) → isBlocked (threadAt (passed s t) k) ≡ isBlocked (threadAt s k)
 blocked-kept s t k =
     ap (λ (n : ℕ). ltb 0 n)
-    (keeps clock (λ (v : State). threadAt v k .blocked) (λ n v. choose-blocked (idles v) (v .threads) (head v) _ k refl)
-    (keeps-fire (λ (v : State). threadAt v k .blocked) (λ i o v. set-blocked (v .threads) i _ k refl) (λ p i v. set-blocked (v .threads) i _ k refl)) s t)
+    (keeps clock (λ (v : State). threadAt v k .blocked) (λ n v. choose-same (λ (x : Thread). x .blocked) (idles v) (v .threads) (head v) _ k refl)
+    (keeps-fire (λ (v : State). threadAt v k .blocked) (λ i o v. set-same (λ (x : Thread). x .blocked) (v .threads) i _ k refl) (λ p i v. set-same (λ (x : Thread). x .blocked) (v .threads) i _ k refl)) s t)
+
+parameters-kept : (s : State) (t k : ℕ) → threadAt (passed s t) k .parameters ≡ threadAt s k .parameters
+parameters-kept s t k =
+    keeps clock (λ (v : State). threadAt v k .parameters) (λ n v. choose-same (λ (x : Thread). x .parameters) (idles v) (v .threads) (head v) _ k refl)
+    (keeps-fire (λ (v : State). threadAt v k .parameters) (λ i o v. set-same (λ (x : Thread). x .parameters) (v .threads) i _ k refl) (λ p i v. set-same (λ (x : Thread). x .parameters) (v .threads) i _ k refl)) s t
+
+-- whether a set carries over is known before time passes
+pub carries-kept : (s : State) (e : Event) → carriesOver e (threadAt (passed s (e .time)) (e .thread)) ≡ carriesOver e (threadAt s (e .thread))
+carries-kept s e = ap (λ (p : Parameters). eqb (e .kind) 4 && (ltb 1 (p .policy) && ltb 1 (e .parameters .policy))) (parameters-kept s (e .time) (e .thread))
 
 header-kept : (s : State) (t : ℕ) → passed s t .header ≡ s .header
 header-kept s t = keeps clock (λ (v : State). v .header) (λ k v. refl) header-fire s t
@@ -89,13 +100,15 @@ both-ways true true f g = refl
 both-ways true false f g = sym (g refl)
 both-ways false y f g = f refl
 
--- what the state refuses at the event's time it refuses now
-pub status-kept : (s : State) (e : Event) → soundState s ≡ true → s .now ≤ e .time → e .time ≤ 1000000000000000 → stateStatus (passed s (e .time)) e ≡ stateStatus s e
-status-kept s e a l m =
+-- what the state refuses with 7 or 8 at the event's time it refuses now
+pub status-kept : (s : State) (e : Event) → soundState s ≡ true → s .now ≤ e .time → e .time ≤ 1000000000000000 → (refused : Bool)
+    → stateStatusOf (e .kind) (idles (passed s (e .time))) (isBlocked (threadAt (passed s (e .time)) (e .thread))) refused
+    ≡ stateStatusOf (e .kind) (idles s) (isBlocked (threadAt s (e .thread))) refused
+status-kept s e a l m refused =
     let u = passed s (e .time) in
     let c = state-out u (sound-advance clock passing s (e .time) a l m) in
     let n = ap (λ (h : Header). h .n) (header-kept s (e .time)) in
     let f = blocked-kept s (e .time) in
-    ap₂ (stateStatusOf (e .kind))
+    ap₂ (λ (x y : Bool). stateStatusOf (e .kind) x y refused)
     (both-ways (idles s) (idles u) (runs-too s u (state-out s a) c n f) (runs-too u s c (state-out s a) (sym n) (λ k. sym (f k))))
     (f (e .thread))

@@ -6,3 +6,4 @@ pub mod StepLaws
 pub mod KeptLaws
 pub mod ChangeLaws
 pub mod DoneLaws
+pub mod CarryLaws

@@ -1,10 +1,17 @@
 -- What the functions that an event calls require, from the soundness of the state.
 use Prim.Native.Nat.{ℕ, _≤_, _<_}
-use mathlib.Core.Bool.{Bool, true, false}
-use mathlib.Core.Path.{_≡_, refl, ap, subst⁻¹}
-use lib.ListN.{length}
-use lib.Dec.{ltb}
+use mathlib.Core.Bool.{Bool, true, false, _&&_}
+use mathlib.Core.Path.{_≡_, refl, sym, ap, _∙_, subst⁻¹}
+use lib.ListN.{length, getD}
+use lib.Dec.{ltb, eqb}
 use native.Mathlib.Omega.{arith}
+use borrow.Author.Tests.{not-false}
+use Rattle.records.specs.declared.Parameters.{Parameters}
+use Rattle.records.specs.declared.Event.{Event}
+use Rattle.records.specs.Ranges.{inRange, fifoInRange, rrInRange, sporadicInRange}
+use Rattle.records.proofs.PolicyLaws.{by-two}
+use Rattle.sporadic.specs.Carry.{Carryable}
+use Rattle.sporadic.proofs.CarryLaws.{carries}
 use Rattle.base.proofs.TestLaws.{tests, false-true}
 use Rattle.account.specs.declared.Pending.{Pending}
 use Rattle.account.specs.Rules.{Schedulable}
@@ -15,8 +22,11 @@ use Rattle.state.specs.declared.State.{State}
 use Rattle.state.specs.State.{threadAt, pendingAt}
 use Rattle.thread.specs.Thread.{isBlocked}
 use Rattle.state.specs.Sound.{soundState}
-use Rattle.state.proofs.SoundLaws.{ThreadSound, Sound, state-out}
+use Rattle.state.proofs.SoundLaws.{ThreadSound, Sound, state-out, range-out, sporadic-out}
 use Rattle.state.proofs.SoundLaws.ThreadSound.{absent, fifo, rr, sporadic}
+use Rattle.events.specs.Answers.{fieldStatus, stateStatus}
+use Rattle.events.proofs.FitLaws.{carries-if}
+use Rattle.events.proofs.EventLaws.{and-both, fields, state}
 
 -- a due a period after the activation fits, and where something is charged there is room for one more
 used-room : (start now : ℕ) (t : Thread) (q : Pending) (u : Bool) → runsUpper (isBlocked t) (t .parameters) (record { server = t .server; pending = q }) ≡ u → t .parameters .«max_repl» ≤ 8
@@ -37,6 +47,19 @@ schedule-fits start now b t q m (rr n z g k v f) l = absurd (omega arith)
 schedule-fits start now b t q m (sporadic n z g k v) l =
     (omega (tests, g, v .numbers), used-room start now t q _ refl (omega (tests, g)) v)
 
+capacity-most : (start now : ℕ) (b : Bool) (t : Thread) (q : Pending) → ThreadSound start now now b t q → 1 < t .parameters .policy → t .server .capacity ≤ 1000000000
+capacity-most start now b t q (absent n e f) l = absurd (omega (arith, ap (λ (x : Thread). x .parameters .policy) e))
+capacity-most start now b t q (fifo n z g k v f) l = absurd (omega arith)
+capacity-most start now b t q (rr n z g k v f) l = absurd (omega arith)
+capacity-most start now b t q (sporadic n z g k v) l = omega (tests, g, v .sums .0)
+
+-- a sporadic thread's budget
+budget-most : (p : Parameters) → inRange 8 p ≡ true → 1 < p .policy → p .budget ≤ 1000000000
+budget-most p r l =
+    let g = range-out p r in
+    let z : p .policy ≡ 2 = omega (arith, g .2) in
+    omega (tests, sporadic-out p (sym (by-two (p .policy) (fifoInRange p) (rrInRange p) (sporadicInRange 8 p) z) ∙ g .3))
+
 module _ (s : State) (a : soundState s ≡ true) where
   sound : Sound s
   sound = state-out s a
@@ -52,3 +75,16 @@ module _ (s : State) (a : soundState s ≡ true) where
   block-requires i m q e l =
       subst⁻¹ (λ (x : Pending). Schedulable (threadAt s i .parameters) (threadAt s i .server) (x .count)) e
       (schedule-fits (s .header .start) (s .now) (ltb i (s .header .n)) (threadAt s i) (pendingAt s i) (omega (tests, sound .sizes)) (sound .each i m) l)
+
+  -- a set that is accepted can carry an account over
+  pub carry-requires : (e : Event) → fieldStatus s e ≡ 0 → stateStatus s e ≡ 0 → e .kind ≡ 4 → e .thread < 32
+      → 1 < threadAt s (e .thread) .parameters .policy → 1 < e .parameters .policy
+      → Carryable (threadAt s (e .thread) .parameters) (e .parameters) (threadAt s (e .thread) .server .capacity)
+  carry-requires e f g z m l n =
+      let t = threadAt s (e .thread) in
+      let p = e .parameters in
+      let r = and-both (inRange 8 p) (eqb (p .flag) 0) (not-false (inRange 8 p && eqb (p .flag) 0) (fields s sound e f g 4 z .2)) in
+      let c = carries-if (t .parameters .policy) (p .policy) _ l n (state s sound e f g 4 z .2) in (
+        omega (arith, budget-most p (r .0) n, capacity-most (s .header .start) (s .now) (ltb (e .thread) (s .header .n)) t (pendingAt s (e .thread)) (sound .each (e .thread) m) l),
+        carries (t .parameters) p (t .server .capacity) (getD (s .counts) (e .thread) 0) (isBlocked t) c .enough,
+      )

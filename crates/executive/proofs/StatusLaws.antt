@@ -1,7 +1,8 @@
 -- The status numbers that fields and state give, case by case.
 use Prim.Native.Nat.{ℕ, _+_, _≤_, _<_}
-use mathlib.Core.Bool.{Bool, true, false, cond, not}
+use mathlib.Core.Bool.{Bool, true, false, cond, not, _&&_}
 use mathlib.Core.Path.{_≡_, refl, sym, ap, _∙_}
+use mathlib.Core.List.{[], _∷_}
 use lib.Dec.{leb, eqb}
 use native.Mathlib.Omega.{arith}
 use borrow.Author.Tests.{ne-eqb}
@@ -29,34 +30,34 @@ module _ (n : ℕ) (e : Event) where
   unfolding fieldStatusOf firstRefusal
   field-right a b c = simp (a, b, c)
 
-at-one : (idle blocked : Bool) → stateStatusOf 1 idle blocked ≡ cond idle 7 0
+at-one : (idle blocked : Bool) → stateStatusOf 1 idle blocked false ≡ cond idle 7 0
 unfolding stateStatusOf firstRefusal
 at-one true blocked = refl
 at-one false blocked = refl
 
-at-two : (idle blocked : Bool) → stateStatusOf 2 idle blocked ≡ cond idle 7 0
+at-two : (idle blocked : Bool) → stateStatusOf 2 idle blocked false ≡ cond idle 7 0
 unfolding stateStatusOf firstRefusal
 at-two true blocked = refl
 at-two false blocked = refl
 
-at-three : (idle blocked : Bool) → stateStatusOf 3 idle blocked ≡ cond (not blocked) 8 0
+at-three : (idle blocked : Bool) → stateStatusOf 3 idle blocked false ≡ cond (not blocked) 8 0
 unfolding stateStatusOf firstRefusal
 at-three idle true = refl
 at-three idle false = refl
 
 module _ (k : ℕ) (idle blocked : Bool) where
   -- block and yield want a running thread
-  pub state-block : k ≡ 1 → stateStatusOf k idle blocked ≡ cond idle 7 0
-  state-block e = ap (λ (x : ℕ). stateStatusOf x idle blocked) e ∙ at-one idle blocked
+  pub state-block : k ≡ 1 → stateStatusOf k idle blocked false ≡ cond idle 7 0
+  state-block e = ap (λ (x : ℕ). stateStatusOf x idle blocked false) e ∙ at-one idle blocked
 
-  pub state-yield : k ≡ 2 → stateStatusOf k idle blocked ≡ cond idle 7 0
-  state-yield e = ap (λ (x : ℕ). stateStatusOf x idle blocked) e ∙ at-two idle blocked
+  pub state-yield : k ≡ 2 → stateStatusOf k idle blocked false ≡ cond idle 7 0
+  state-yield e = ap (λ (x : ℕ). stateStatusOf x idle blocked false) e ∙ at-two idle blocked
 
   -- wake wants a blocked one
-  pub state-wake : k ≡ 3 → stateStatusOf k idle blocked ≡ cond (not blocked) 8 0
-  state-wake e = ap (λ (x : ℕ). stateStatusOf x idle blocked) e ∙ at-three idle blocked
+  pub state-wake : k ≡ 3 → stateStatusOf k idle blocked false ≡ cond (not blocked) 8 0
+  state-wake e = ap (λ (x : ℕ). stateStatusOf x idle blocked false) e ∙ at-three idle blocked
 
-  pub state-other : (k ≡ 1 → ⊥) → (k ≡ 2 → ⊥) → (k ≡ 3 → ⊥) → stateStatusOf k idle blocked ≡ 0
+  pub state-other : (k ≡ 1 → ⊥) → (k ≡ 2 → ⊥) → (k ≡ 3 → ⊥) → stateStatusOf k idle blocked false ≡ 0
   unfolding stateStatusOf firstRefusal
   state-other a b c = simp (ne-eqb k 1 a, ne-eqb k 2 b, ne-eqb k 3 c)
 
@@ -99,9 +100,36 @@ time-small now time = status-at-most 6 _ (omega arith, (omega arith, (omega arit
 pub early-small : (n now : ℕ) (e : Event) → earlyStatus n now e ≤ 6
 early-small n now e = status-at-most 6 _ (field-small n e, (time-small now (e .time), tt))
 
-pub state-small : (k : ℕ) (idle blocked : Bool) → stateStatusOf k idle blocked ≤ 8
-unfolding stateStatusOf
-state-small k idle blocked = status-at-most 8 _ (omega arith, (omega arith, tt))
+pub state-small : (k : ℕ) (idle blocked : Bool) → stateStatusOf k idle blocked false ≤ 8
+unfolding stateStatusOf firstRefusal
+state-small k idle blocked = go (cond (eqb k 1) idle (eqb k 2 && idle)) (eqb k 3 && not blocked)
+  where
+    go : (a b : Bool) → firstRefusal ((a, 7) ∷ (b, 8) ∷ (false, 15) ∷ []) ≤ 8
+    go true b = omega arith
+    go false true = omega arith
+    go false false = omega arith
+
+-- ---- 15 comes after 7 and 8
+
+module _ (k : ℕ) (idle blocked refused : Bool) where
+  pub allows-first : (stateStatusOf k idle blocked false ≡ 0 → ⊥) → stateStatusOf k idle blocked refused ≡ stateStatusOf k idle blocked false
+  unfolding stateStatusOf firstRefusal
+  allows-first d = go (cond (eqb k 1) idle (eqb k 2 && idle)) (eqb k 3 && not blocked) d
+    where
+      go : (a b : Bool) → (firstRefusal ((a, 7) ∷ (b, 8) ∷ (false, 15) ∷ []) ≡ 0 → ⊥)
+          → firstRefusal ((a, 7) ∷ (b, 8) ∷ (refused, 15) ∷ []) ≡ firstRefusal ((a, 7) ∷ (b, 8) ∷ (false, 15) ∷ [])
+      go true b d = refl
+      go false true d = refl
+      go false false d = absurd (d refl)
+
+  pub allows-last : stateStatusOf k idle blocked false ≡ 0 → stateStatusOf k idle blocked refused ≡ cond refused 15 0
+  unfolding stateStatusOf firstRefusal
+  allows-last z = go (cond (eqb k 1) idle (eqb k 2 && idle)) (eqb k 3 && not blocked) z
+    where
+      go : (a b : Bool) → firstRefusal ((a, 7) ∷ (b, 8) ∷ (false, 15) ∷ []) ≡ 0 → firstRefusal ((a, 7) ∷ (b, 8) ∷ (refused, 15) ∷ []) ≡ cond refused 15 0
+      go true b z = absurd (omega (arith, z))
+      go false true z = absurd (omega (arith, z))
+      go false false z = refl
 
 -- ---- both parts
 

@@ -4,6 +4,7 @@ ghost use mathlib.Core.Bool.{cond};
 ghost use Prim.Native.Nat.{_<_, _^_};
 ghost use lib.Dec.{leb};
 ghost use Rattle.sporadic.specs.Rules.{dueOf};
+ghost use Rattle.sporadic.specs.Carry.{Carryable};
 ghost use Rattle.account.specs.Rules.{Schedulable};
 ghost use Rattle.ready.specs.Word.{occupancy};
 ghost use Rattle.ready.specs.Rules.{Joinable, Leavable, Movable};
@@ -44,7 +45,8 @@ fn change_to(t: Thread, a: Account, u: Thread, b: Account) -> Change
 
 // What an event does at its time to the thread that it concerns.
 pub(super) fn change_of(e: Event, t: Thread, q: Pending) -> Change
-    requires { ⌜ (0 < e .kind) × (e .kind ≡ 1 → 1 < t .parameters .policy → Schedulable (t .parameters) (t .server) (q .count)) ⌝ }
+    requires { ⌜ (0 < e .kind) × (e .kind ≡ 1 → 1 < t .parameters .policy → Schedulable (t .parameters) (t .server) (q .count))
+        × (3 < e .kind → 1 < t .parameters .policy → 1 < e .parameters .policy → Carryable (t .parameters) (e .parameters) (t .server .capacity)) ⌝ }
     ensures { λ r. ⌜ r ≡ changeOf (e .kind) (e .time) (e .parameters) t (record { server = t .server; pending = q }) ⌝ }
 {
     let v = t.server;
@@ -68,7 +70,8 @@ pub(super) fn change_of(e: Event, t: Thread, q: Pending) -> Change
     }
     let p = e.parameters;
     let u = thread::renew(p, t);
-    let b = account::new_account(p, e.time);
+    let old = t.parameters;
+    let b = account::set_account(old, p, a, 0 < t.blocked, e.time);
     change_to(t, a, u, b)
 }
 

@@ -21,6 +21,7 @@ use rows::Slots;
 use state::Core;
 use thread::Thread;
 
+mod carries; // carries.rt: whether a set that carries an account over is refused
 mod changes; // changes.rt: what an accepted event does to the state
 mod parts; // parts.rt: what an event does to one thread and its account
 mod statuses; // statuses.rt: whether an event is accepted
@@ -73,8 +74,8 @@ fn clear(known: bool, told: &mut [u64; NUMBERS])
 }
 
 // An event for a state that is changed in place: each call that took the core would copy it, so it is copied only where a
-// moment falls up to the event. The last turn of the loop gives the answer; the turns before it bring the state to the
-// event's time and do what the event does.
+// moment falls up to the event. The last turn of the loop gives the answer; the turns before it judge a set that carries an account
+// over, bring the state to the event's time and do what the event does.
 fn answer_event(
     mut s: Core,
     dues: &mut Slots,
@@ -105,9 +106,12 @@ fn answer_event(
     ) {
         return answers::nothing_runs(base::NOT_SOUND, s);
     }
-    let named = s.threads[parts::index(e.thread)];
-    let status = statuses::status_of(header.n, s.now, s.word, 0 < named.blocked, e);
+    let at = parts::index(e.thread);
+    let named = s.threads[at];
+    let mut status = statuses::status_of(header.n, s.now, s.word, 0 < named.blocked, e);
     let mut done = status != 0;
+    // 15 is judged at the event's time, once, and before anything is changed
+    let mut judging = carries::carries_over(e.kind, named.parameters.policy, e.parameters.policy);
     loop {
         let n = s.header.n as usize;
         let level = ready::highest(s.word);
@@ -118,6 +122,18 @@ fn answer_event(
         if done {
             let runs = ticks::running(s.word, &s.lists);
             return answers::answer_of(status, runs, next, s);
+        }
+        if judging {
+            judging = false;
+            if ticks::due_by(next, e.time) {
+                status = carries::status_then(s, dues, amounts, e);
+                done = status != 0;
+                continue;
+            }
+            let worker = s.threads[at];
+            status = carries::status_now(e, worker, s.counts[at], level, h, s.now);
+            done = status != 0;
+            continue;
         }
         if ticks::due_by(next, e.time) {
             s = moments::advance(s, dues, amounts, told, e.time);

@@ -89,9 +89,9 @@ pub(super) fn field_status(n: u32, e: Event) -> u8
     0
 }
 
-// 7 or 8 where the state doesn't allow the event: nothing runs, or the thread is not blocked.
+// 7 or 8 where the state doesn't allow the event: nothing runs, or the thread is not blocked. 15 is judged apart.
 pub(super) fn state_status(kind: u8, idle: bool, blocked: bool) -> u8
-    ensures { λ r. ⌜ r ≡ stateStatusOf kind idle blocked ⌝ }
+    ensures { λ r. ⌜ r ≡ stateStatusOf kind idle blocked false ⌝ }
 {
     if kind == 1 {
         return when(idle, base::NOTHING_RUNS);

@@ -33,8 +33,8 @@ pub(super) fn early_status(n: u32, now: u64, e: Event) -> u8
     time_status(now, e.time)
 }
 
-// The status of an event for a sound state. Time changes neither whether a thread runs nor which are blocked, so all of it
-// is judged before time passes.
+// The status of an event for a sound state, but for 15. Time changes neither whether a thread runs nor which are blocked, so
+// all of it is judged before time passes.
 pub(super) fn status_of(n: u32, now: u64, word: u32, blocked: bool, e: Event) -> u8
     ensures { λ r. ⌜ r ≡ soundStatus n now word blocked e ⌝ }
 {

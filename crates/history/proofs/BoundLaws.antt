@@ -19,7 +19,7 @@ use Rattle.history.specs.History.{historyOf}
 use Rattle.ledger.specs.Bound.{stretch}
 use Rattle.history.specs.Bound.{upperTicks, Watched, TwiceEachStretch, TwiceEachPeriod, TwiceInAPeriod, NeverMore}
 use Rattle.history.proofs.SeenLaws.{Own, own}
-use Rattle.history.proofs.EventLaws.{sequence-seen}
+use Rattle.history.proofs.EventLaws.{never-seen}
 
 module _ (i : ℕ) (s : State) (es : List Event) (w : Watched i s es) where
   sound : Sound s
@@ -33,12 +33,12 @@ module _ (i : ℕ) (s : State) (es : List Event) (w : Watched i s es) where
 
   -- a tick takes a tick
   elapsed : upperTicks i s es ≤ end executive s es .now - s .now
-  elapsed = omega (arith, sequence-seen (Elapsed (s .now)) (elapsed-rules (s .now)) i small es s [] (w .sound) (w .policy, omega arith) (w .never) .0 .1)
+  elapsed = omega (arith, never-seen (Elapsed (s .now)) (elapsed-rules (s .now)) i small es s [] (w .sound) (w .policy, omega arith) (w .never) .0 .1)
 
   by-stretches : (n : ℕ) → end executive s es .now ≤ s .now + n * stretch (threadAt s i .parameters) → upperTicks i s es ≤ n * (2 * threadAt s i .parameters .budget)
   by-stretches n e =
       let p = threadAt s i .parameters in
-      let q = sequence-seen (Bounded p (s .now)) (bound-rules p (s .now)) i small es s [] (w .sound) (w .policy, bound-begins (s .now) (isBlocked (threadAt s i)) p (accountAt s i)) (w .never) in
+      let q = never-seen (Bounded p (s .now)) (bound-rules p (s .now)) i small es s [] (w .sound) (w .policy, bound-begins (s .now) (isBlocked (threadAt s i)) p (accountAt s i)) (w .never) in
       let u = end executive s es in
       let k : threadAt u i .parameters ≡ p = q .0 .1 .same in
       subst (λ (x : Parameters). upperTicks i s es ≤ n * (2 * x .budget)) k

@@ -1,20 +1,25 @@
 -- The same over events, and over sequences of them.
-use Prim.Native.Nat.{ℕ, zero, suc, _<_}
-use mathlib.Core.Bool.{Bool, true, false, cond}
+use Prim.Native.Nat.{ℕ, zero, suc, _≤_, _<_}
+use mathlib.Core.Bool.{Bool, true, false, cond, _&&_}
 use mathlib.Core.Path.{_≡_, refl, sym, ap, _∙_, subst, subst⁻¹}
 use mathlib.Core.List.{List, [], _∷_, _++_, append-nil, append-assoc}
+use lib.ListN.{getD}
 use lib.Dec.{ltb, leb, eqb}
 use native.Mathlib.Omega.{arith}
 use native.Mathlib.Decide.{ℕ-discrete}
-use borrow.Author.Tests.{eqb-true, eqb-false, ltb-false, not-false}
+use borrow.Author.Tests.{eqb-true, eqb-false, ltb-true, ltb-false, not-false}
 use Rattle.base.proofs.TestLaws.{tests, cond-elim, cond-false}
 use Rattle.records.specs.declared.Event.{Event}
+use Rattle.records.specs.Ranges.{inRange}
 use Rattle.records.proofs.PolicyLaws.{by-two}
 use Rattle.sporadic.specs.Rules.{blockEffect, wakeEffect}
+use Rattle.sporadic.specs.Carry.{goesUp, carriedServer, cantCarry}
+use Rattle.sporadic.proofs.CarryLaws.{carries as notRefused}
 use Rattle.account.specs.declared.Account.{Account}
 use Rattle.account.specs.Rules.{applied, blocking}
+use Rattle.account.specs.Carry.{carried}
 use Rattle.account.specs.Sound.{runsUpper}
-use Rattle.account_laws.proofs.SoundLaws.{upper-room}
+use Rattle.account_laws.proofs.SoundLaws.{made, upper-room}
 use Rattle.passing.specs.Sequence.{status, answer, end}
 use Rattle.passing.specs.Reports.{report, reportedTo}
 use Rattle.passing.proofs.TimeLaws.{sound-advance}
@@ -22,13 +27,13 @@ use Rattle.passing.proofs.SequenceLaws.{acceptable, answer-accepted, refused-st
 use Rattle.passing.proofs.ReportLaws.{report-accepted, report-refused}
 use Rattle.reports.specs.Steps.{Step, Log, stepsOf}
 use Rattle.reports.specs.Steps.Step.{effect}
-use Rattle.ledger.proofs.StepRules.{Property, StepRules}
+use Rattle.ledger.proofs.StepRules.{Property, StepRules, CarryRule}
 use Rattle.thread.specs.declared.Thread.{Thread}
 use Rattle.thread.specs.Thread.{isBlocked, withServer}
 use Rattle.state.specs.declared.State.{State}
 use Rattle.state.specs.State.{threadAt, pendingAt, accountAt}
 use Rattle.state.specs.Sound.{soundState}
-use Rattle.state.proofs.SoundLaws.{Sound, state-out}
+use Rattle.state.proofs.SoundLaws.{Sound, range-out, state-out}
 use Rattle.ticks.specs.Running.{head}
 use Rattle.moments.specs.Moments.{clock, passed}
 use Rattle.moments.specs.Reports.{ruled}
@@ -38,9 +43,10 @@ use Rattle.events.specs.declared.Change.{Change}
 use Rattle.events.specs.Events.{changeOf, shifted, withChange, concerned, eventChange, happened}
 use Rattle.events.specs.Answers.{fieldStatus, stateStatus, executive}
 use Rattle.events.specs.Reports.{ownLogOf, ownLog}
-use Rattle.events.proofs.EventLaws.{fields, state, change-right}
+use Rattle.events.proofs.FitLaws.{carries-if}
+use Rattle.events.proofs.EventLaws.{and-both, fields, state, change-right}
 use Rattle.events.proofs.DemandLaws.{field-passed, accepted-sound}
-use Rattle.history.specs.History.{logs, history, historyOf, NeverSet}
+use Rattle.history.specs.History.{logs, history, historyOf, carries, EachSet, NeverSet}
 use Rattle.history.proofs.SeenLaws.{steps-more, their-step, mine-step, SeenOf, Seen, mine, theirs, Own, own}
 use Rattle.history.proofs.PassedLaws.{passed-seen}
 
@@ -101,9 +107,9 @@ module _ (G : Property) (L : StepRules G) where
     unfolding changeOf
     yields p = (q .0, rw (append-nil xs) (q .1))
 
-    -- ---- any event but a set of thread i
+    -- ---- any event, with what is known of a set of thread i
 
-    module _ (e : Event) (f : fieldStatus s e ≡ 0) (g : stateStatus s e ≡ 0) (n : e .kind ≡ 4 → e .thread ≡ i → ⊥) where
+    module _ (e : Event) (f : fieldStatus s e ≡ 0) (g : stateStatus s e ≡ 0) (n : e .kind ≡ 4 → e .thread ≡ i → After (changeOf 4 (s .now) (e .parameters) t a) (xs ++ [])) where
       -- the thread that it concerns, by its kind
       who : ℕ → ℕ
       who k = cond (leb k 2) (head s) (e .thread)
@@ -116,7 +122,7 @@ module _ (G : Property) (L : StepRules G) where
       own-change (suc (suc zero)) z p d = yields (e .parameters)
       own-change (suc (suc (suc zero))) z p d =
           wakes (ap (λ (j : ℕ). isBlocked (threadAt s j)) (sym d) ∙ not-false (isBlocked (threadAt s (e .thread))) (state s h e f g 3 z .1)) (e .parameters)
-      own-change (suc (suc (suc (suc zero)))) z p d = absurd (n z d)
+      own-change (suc (suc (suc (suc zero)))) z p d = n z d
       own-change (suc (suc (suc (suc (suc k))))) z p d =
           absurd (omega (arith, ltb-false 4 (suc (suc (suc (suc (suc k))))) (fields s h e f g (suc (suc (suc (suc (suc k))))) z .0)))
 
@@ -146,10 +152,57 @@ module _ (G : Property) (L : StepRules G) where
           (λ z. subst⁻¹ (λ (k : ℕ). Seen G i s (xs ++ stepsOf i (ownLogOf k (concerned s e) (threadAt s (concerned s e)) s))) (eqb-true (e .kind) 0 z) (rw (append-nil xs) q))
           (λ z. changed-seen (omega (arith, eqb-false (e .kind) 0 z)))
 
+  -- ---- a set that carries over
+
+  module _ (C : CarryRule G) (i : ℕ) (l : i < 32) (s : State) (h : Sound s) (e : Event) (f : fieldStatus s e ≡ 0) (g : stateStatus s e ≡ 0) (xs : List Step) (q : Seen G i s xs) where
+    -- its account, as the set leaves it
+    abbrev kept : Account
+    kept = carried (s .now) (isBlocked (threadAt s i)) (threadAt s i .parameters) (e .parameters) (accountAt s i)
+
+    carried-keeps : cantCarry (isBlocked (threadAt s i)) (threadAt s i .parameters) (e .parameters) (threadAt s i .server .capacity) (getD (s .counts) i 0) ≡ false
+        → G (s .now) (isBlocked (threadAt s i)) (e .parameters) (made (kept .server) (kept .pending)) xs
+    unfolding carried carriedServer
+    carried-keeps c =
+        let t = threadAt s i in
+        let o = own (s .header .start) (s .now) (s .now) (ltb i (s .header .n)) t (pendingAt s i) (h .each i l) (q .0) in
+        C (s .now) (isBlocked t) (t .parameters) (e .parameters) (accountAt s i) _ xs (q .1)
+        (omega (arith, notRefused (t .parameters) (e .parameters) (t .server .capacity) (getD (s .counts) i 0) (isBlocked t) c .enough)) refl
+        (cond-elim (λ (x : ℕ). t .server .activation ≤ x) (goesUp (isBlocked t) (t .parameters) (e .parameters) (getD (s .counts) i 0) (t .server)) (s .now) (t .server .activation)
+        (λ u. omega (tests, o .account .numbers)) (λ u. omega arith))
+
+    pub carry-seen : 1 < e .parameters .policy → e .kind ≡ 4 → e .thread ≡ i → After i l s h xs q (changeOf 4 (s .now) (e .parameters) (threadAt s i) (accountAt s i)) (xs ++ [])
+    unfolding changeOf
+    carry-seen p z d = (
+      two,
+      rw (append-nil xs)
+          (subst⁻¹ (λ (b : Account). G (s .now) (isBlocked (threadAt s i)) (e .parameters) (made (b .server) (b .pending)) xs)
+          (by-two {A = Account} (threadAt s i .parameters .policy) _ _ _ (q .0) ∙ by-two {A = Account} (e .parameters .policy) _ _ _ two)
+          (carried-keeps allowed)),
+    )
+      where
+        -- in range
+        two : e .parameters .policy ≡ 2
+        two =
+            let r = and-both (inRange 8 (e .parameters)) (eqb (e .parameters .flag) 0) (not-false (inRange 8 (e .parameters) && eqb (e .parameters .flag) 0) (fields s h e f g 4 z .2)) in
+            omega (arith, range-out (e .parameters) (r .0) .2)
+
+        allowed : cantCarry (isBlocked (threadAt s i)) (threadAt s i .parameters) (e .parameters) (threadAt s i .server .capacity) (getD (s .counts) i 0) ≡ false
+        allowed =
+            subst (λ (j : ℕ). cantCarry (isBlocked (threadAt s j)) (threadAt s j .parameters) (e .parameters) (threadAt s j .server .capacity) (getD (s .counts) j 0) ≡ false) d
+            (carries-if (threadAt s (e .thread) .parameters .policy) (e .parameters .policy) _
+            (omega (arith, ap (λ (j : ℕ). threadAt s j .parameters .policy) d, q .0)) p (state s h e f g 4 z .2))
+
   -- ---- events and sequences
 
-  module _ (i : ℕ) (l : i < 32) where
-    event-seen : (s : State) (e : Event) (xs : List Step) → status executive s e ≡ 0 → Seen G i s xs → (e .kind ≡ 4 → e .thread ≡ i → ⊥)
+  -- the sets of thread i that P allows keep the property
+  abbrev pub SetsKeep : (State → Event → Type 0) → ℕ → Type 0
+  SetsKeep P i =
+      (s : State) (e : Event) → P s e → e .kind ≡ 4 → e .thread ≡ i → (u : State) → Sound u → fieldStatus u e ≡ 0 → stateStatus u e ≡ 0 → (xs : List Step) → Seen G i u xs
+      → let c = changeOf 4 (u .now) (e .parameters) (threadAt u i) (accountAt u i) in
+      SeenOf G (u .now) (withServer (c .account .server) (c .thread)) (c .account .pending) (xs ++ [])
+
+  module _ (P : State → Event → Type 0) (i : ℕ) (l : i < 32) (k : SetsKeep P i) where
+    event-seen : (s : State) (e : Event) (xs : List Step) → status executive s e ≡ 0 → Seen G i s xs → (e .kind ≡ 4 → e .thread ≡ i → P s e)
         → Seen G i (answer executive s e .state) (xs ++ stepsOf i (report executive logs ownLog s e))
     event-seen s e xs z q n =
         let a = acceptable executive s e z in
@@ -160,9 +213,11 @@ module _ (G : Property) (L : StepRules G) where
         (subst (Seen G i (happened u e))
         (append-assoc xs (stepsOf i before) (stepsOf i (ownLog u e)) ∙ ap (λ (ys : List Step). xs ++ ys) (sym (steps-more i before (ownLog u e))))
         (happened-seen i l u h (xs ++ stepsOf i before)
-        (passed-seen G L i l xs (e .time) (a .inRange) s (state-out s (a .sound)) (a .after) q) e (field-passed s e ∙ a .fields) (a .state) n))
+        (passed-seen G L i l xs (e .time) (a .inRange) s (state-out s (a .sound)) (a .after) q) e (field-passed s e ∙ a .fields) (a .state)
+        (λ y d. k s e (n y d) y d u h (field-passed s e ∙ a .fields) (a .state) (xs ++ stepsOf i before)
+        (passed-seen G L i l xs (e .time) (a .inRange) s (state-out s (a .sound)) (a .after) q))))
 
-    pub sequence-seen : (es : List Event) (s : State) (xs : List Step) → soundState s ≡ true → Seen G i s xs → NeverSet i s es
+    sequence-seen : (es : List Event) (s : State) (xs : List Step) → soundState s ≡ true → Seen G i s xs → EachSet P i s es
         → Seen G i (end executive s es) (xs ++ historyOf i s es) × (soundState (end executive s es) ≡ true)
     sequence-seen [] s xs h q n = (rw (append-nil xs) q, h)
     sequence-seen (e ∷ es) s xs h q n =
@@ -184,3 +239,20 @@ module _ (G : Property) (L : StepRules G) where
             (f z)
         go (no z) f g =
             subst⁻¹ (λ (ys : Log). Goal (xs ++ stepsOf i (ys ++ history (answer executive s e .state) es))) (report-refused executive logs ownLog s e z) (g (omega (arith, z)))
+
+  -- ---- none is accepted, or each carries over
+
+  module _ (i : ℕ) (l : i < 32) where
+    carries-keep : CarryRule G → SetsKeep (λ u e. carries u e ≡ true) i
+    carries-keep C s e c z d u h f g xs q =
+        let was = ltb 1 (threadAt s (e .thread) .parameters .policy) in
+        let is = ltb 1 (e .parameters .policy) in
+        carry-seen C i l u h e f g xs q (ltb-true 1 (e .parameters .policy) (and-both was is (and-both (eqb (e .kind) 4) (was && is) c .1) .1)) z d
+
+    pub never-seen : (es : List Event) (s : State) (xs : List Step) → soundState s ≡ true → Seen G i s xs → NeverSet i s es
+        → Seen G i (end executive s es) (xs ++ historyOf i s es) × (soundState (end executive s es) ≡ true)
+    never-seen es s xs h q n = sequence-seen (λ u e. ⊥) i l (λ s e n z d u h f g xs q. absurd n) es s xs h q n
+
+    pub carried-seen : CarryRule G → (es : List Event) (s : State) (xs : List Step) → soundState s ≡ true → Seen G i s xs → EachSet (λ u e. carries u e ≡ true) i s es
+        → Seen G i (end executive s es) (xs ++ historyOf i s es) × (soundState (end executive s es) ≡ true)
+    carried-seen C es s xs h q n = sequence-seen (λ u e. carries u e ≡ true) i l (carries-keep C) es s xs h q n

@@ -11,6 +11,7 @@ use Rattle.base.proofs.TestLaws.{tests, All, cond-true, cond-false}
 use Rattle.records.proofs.PolicyLaws.{by-two}
 use Rattle.sporadic.specs.declared.Server.{Server}
 use Rattle.sporadic.specs.Rules.{charged}
+use Rattle.account.specs.declared.Pending.{Pending}
 use Rattle.account.specs.Account.{isUpper}
 use Rattle.account_laws.proofs.SoundLaws.{AccountSound, made, charge-sound, upper-room}
 use Rattle.passing.specs.Time.{Clock, dueBy, chargeTo, moment, run}
@@ -20,17 +21,17 @@ use Rattle.passing.proofs.ReportLaws.{reporting-state}
 use Rattle.reports.specs.Steps.{Step, Log, stepsOf}
 use Rattle.ledger.proofs.StepRules.{Property, StepRules}
 use Rattle.thread.specs.declared.Thread.{Thread}
-use Rattle.thread.specs.Thread.{isBlocked, noThread, assigned}
+use Rattle.thread.specs.Thread.{isBlocked, noThread}
 use Rattle.state.specs.declared.State.{State}
 use Rattle.state.specs.State.{threadAt, pendingAt, accountAt}
-use Rattle.state.proofs.SoundLaws.{Sound, sizeTests, state-in, state-out}
+use Rattle.state.proofs.SoundLaws.{ThreadSound, Sound, sizeTests, state-in, state-out}
+use Rattle.state.proofs.SoundLaws.ThreadSound.{absent, fifo, rr, sporadic}
 use Rattle.ticks.specs.Running.{level, head, idles, ran, charge, limitOf, limit, next}
 use Rattle.due_search.specs.Search.{nextDue}
 use Rattle.ticks.proofs.EarlierLaws.{earlier-left}
 use Rattle.moments.specs.Moments.{limits, replenishBelow, fire, clock, passed}
 use Rattle.moments.specs.Reports.{limitLog, belowLog, fireLog}
 use Rattle.moments.proofs.ChargeLaws.{runs, upper-at, later, first-bound, dues-after, ran-upper}
-use Rattle.moments.proofs.FireLaws.{keeps-limits}
 use Rattle.moments.proofs.MomentLaws.{before, limits-sound, passing}
 use Rattle.history.specs.History.{chargeLog, logs}
 use Rattle.history.proofs.SeenLaws.{steps-more, Seen, Own, own, below-seen, Spent, limits-seen, charge-seen}
@@ -49,6 +50,31 @@ and-left : (a b : Bool) → (a && b) ≡ true → a ≡ true
 and-left true b e = refl
 and-left false b e = e
 
+-- ---- the thread that runs, at its upper priority
+
+at-most-two : (start now lo : ℕ) (b : Bool) (t : Thread) (q : Pending) → ThreadSound start now lo b t q → 1 < t .parameters .policy → t .parameters .policy ≡ 2
+at-most-two start now lo b t q (absent n e f) l = absurd (omega (arith, l, ap (λ (x : Thread). x .parameters .policy) e))
+at-most-two start now lo b t q (fifo n z k a v f) l = absurd (omega (arith, l, z))
+at-most-two start now lo b t q (rr n z k a v f) l = absurd (omega (arith, l, z))
+at-most-two start now lo b t q (sporadic n z k a v) l = z
+
+module _ (s : State) (h : Sound s) (e : idles s ≡ false) (c : 1 < threadAt s (head s) .parameters .policy) (u : eqb (level s) (threadAt s (head s) .parameters .priority) ≡ true) where
+  small : head s < 32
+  small = runs (λ j. s .now) s h e .small
+
+  two : threadAt s (head s) .parameters .policy ≡ 2
+  two = at-most-two (s .header .start) (s .now) (s .now) (ltb (head s) (s .header .n)) (threadAt s (head s)) (pendingAt s (head s)) (h .each (head s) small) c
+
+  its : Own (s .header .start) (s .now) (s .now) (threadAt s (head s)) (pendingAt s (head s))
+  its = own (s .header .start) (s .now) (s .now) (ltb (head s) (s .header .n)) (threadAt s (head s)) (pendingAt s (head s)) (h .each (head s) small) two
+
+  runs-up : isUpper (threadAt s (head s) .parameters) (accountAt s (head s)) ≡ true
+  runs-up = upper-at (level s) (threadAt s (head s)) (pendingAt s (head s)) two (omega (tests, its .ranges)) (runs (λ j. s .now) s h e .stands) u
+
+  -- so there is room for U
+  few : getD (s .counts) (head s) 0 < 8
+  few = omega (tests, its .ranges, upper-room (threadAt s (head s) .parameters) (accountAt s (head s)) runs-up .1)
+
 module _ (G : Property) (L : StepRules G) where
   module _ (i : ℕ) (l : i < 32) (s : State) (h : Sound s) (xs : List Step) (q : Seen G i s xs) where
     mine : Own (s .header .start) (s .now) (s .now) (threadAt s i) (pendingAt s i)
@@ -58,10 +84,10 @@ module _ (G : Property) (L : StepRules G) where
     module _ (e : idles s ≡ false) (d : head s ≡ i) (u : eqb (level s) (threadAt s i .parameters .priority) ≡ true) where
       upper : (isBlocked (threadAt s i) ≡ false) × (isUpper (threadAt s i .parameters) (accountAt s i) ≡ true)
       upper =
-          let r = runs (λ j. s .now) s h e in (
-            ap (λ (j : ℕ). isBlocked (threadAt s j)) (sym d) ∙ r .awake,
-            upper-at (level s) (threadAt s i) (pendingAt s i) (q .0) (omega (tests, mine .ranges))
-                (ap (λ (j : ℕ). assigned (threadAt s j) (getD (s .counts) j 0)) (sym d) ∙ r .stands) u,
+          let there : (j : ℕ) → j ≡ i → (1 < threadAt s j .parameters .policy) × (eqb (level s) (threadAt s j .parameters .priority) ≡ true)
+          = λ j d. (omega (arith, ap (λ (j : ℕ). threadAt s j .parameters .policy) d, q .0), ap (λ (j : ℕ). eqb (level s) (threadAt s j .parameters .priority)) d ∙ u) in (
+            ap (λ (j : ℕ). isBlocked (threadAt s j)) (sym d) ∙ runs (λ j. s .now) s h e .awake,
+            ap (λ (j : ℕ). isUpper (threadAt s j .parameters) (accountAt s j)) (sym d) ∙ runs-up s h e (there (head s) d .0) (there (head s) d .1),
           )
 
       sound : AccountSound (s .header .start) (s .now) (s .now) true (threadAt s i .parameters) (accountAt s i)
@@ -122,6 +148,15 @@ module _ (G : Property) (L : StepRules G) where
               (within e d u (next s - s .now) (λ z. omega (arith, at-next)))
               (first-bound (pendingAt s i) (next s - 1) (dues-after (λ j. s .now) s (next s - 1) h (λ z. omega arith) i l))
 
+      -- whichever thread reaches its limit
+      limit-room : idles v ≡ false → 1 < threadAt v (head v) .parameters .policy → (eqb (level v) (threadAt v (head v) .parameters .priority) && eqb (threadAt v (head v) .server .capacity) 0) ≡ true
+          → getD (v .counts) (head v) 0 < 8
+      limit-room e c b =
+          few s h e (omega (arith, c, ap (λ (x : Thread). x .parameters .policy) there)) (ap (λ (x : Thread). eqb (level s) (x .parameters .priority)) (sym there) ∙ and-left _ _ b)
+        where
+          there : threadAt (charge (next s - s .now) s) (head s) ≡ ran (level s) (next s - s .now) (threadAt s (head s))
+          there = charged-thread (next s - s .now) (head s) s (omega (tests, h .sizes, runs (λ j. s .now) s h e .small)) e refl
+
       moment-seen : Seen G i (moment clock s) ((xs ++ stepsOf i (chargeLog (next s - s .now) s)) ++ stepsOf i (fireLog v))
       unfolding fire before
       moment-seen =
@@ -129,10 +164,9 @@ module _ (G : Property) (L : StepRules G) where
           subst (Seen G i (replenishBelow (s .header .n) (limits v)))
           (append-assoc ys (stepsOf i (limitLog v)) (stepsOf i (belowLog (s .header .n) (limits v)))
           ∙ ap (λ (zs : List Step). ys ++ zs) (sym (steps-more i (limitLog v) (belowLog (s .header .n) (limits v)))))
-          (below-seen G L i l (s .header .n) (omega (tests, h .sizes)) (before s) (limits v) (limits-sound s h some top)
-          (λ j. omega (arith, at-next, keeps-limits (λ (w : State). w .now) (λ a o w. refl) (λ a b w. refl) v)) (ys ++ stepsOf i (limitLog v))
+          (below-seen G L i l (s .header .n) (omega (tests, h .sizes)) (before s) (limits v) (limits-sound s h some top) (ys ++ stepsOf i (limitLog v))
           (limits-seen G L i (next s - 1) l v (charged-sizes (next s - s .now) s (h .sizes) (omega (arith, at-next))) ys
-          (ticks-seen (next s - s .now) (λ z. omega (arith, at-next))) (λ e. runs (λ j. s .now) s h e .small) spent))
+          (ticks-seen (next s - s .now) (λ z. omega (arith, at-next))) (λ e. runs (λ j. s .now) s h e .small) limit-room spent))
 
   -- ---- the passing of time
 

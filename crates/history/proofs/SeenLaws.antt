@@ -14,12 +14,15 @@ use Rattle.records.specs.Ranges.{byPolicy}
 use Rattle.records.proofs.PolicyLaws.{by-two, policy-elim}
 use Rattle.sporadic.specs.declared.Effect.{Effect}
 use Rattle.sporadic.specs.Rules.{charged, limitEffect}
+use Rattle.sporadic.proofs.EffectLaws.{limit-keeps}
+use Rattle.entries.proofs.InsertLaws.{slot-for}
 use Rattle.account.specs.declared.Pending.{Pending}
 use Rattle.account.specs.declared.Account.{Account}
 use Rattle.account.specs.Account.{isUpper}
-use Rattle.account.specs.Rules.{applied, firstIsDue, returnFirst}
+use Rattle.account.specs.Rules.{slotFor, Room, applied, firstIsDue, returnFirst}
 use Rattle.account.specs.Sound.{runsUpper}
 use Rattle.account.proofs.EntryLaws.{slots-length}
+use Rattle.account.proofs.RoomLaws.{return-room}
 use Rattle.account.proofs.ReturnLaws.{due-some}
 use Rattle.account_laws.proofs.SoundLaws.{AccountSound, made}
 use Rattle.ready.specs.Lists.{moved}
@@ -40,7 +43,7 @@ use Rattle.moments.specs.Moments.{quantumEnded, limitsOf, limits, firstReturned
 use Rattle.moments.specs.Reports.{ruled, limitLogOf, limitLog, returnLog, replenishLog, belowLog}
 use Rattle.moments.proofs.ChangeLaws.{thread-new, thread-other, pending-new, pending-other, thread-account}
 use Rattle.moments.proofs.ChargeLaws.{ran-upper, ran-low}
-use Rattle.moments.proofs.FireLaws.{first-returned-sound, now-below, turns, below-sound}
+use Rattle.moments.proofs.FireLaws.{first-returned-sound, turns, below-sound}
 use Rattle.history.specs.History.{ranLog, chargeLog}
 
 -- ---- logs
@@ -69,11 +72,14 @@ Rows q = (length (q .dues) ≡ 8) × (length (q .amounts) ≡ 8)
 pub rows-at : (s : State) → All (sizeTests s) → (j : ℕ) → j < 32 → Rows (pendingAt s j)
 rows-at s z j l = (row-length j (s .dues) l (omega (tests, z)), row-length j (s .amounts) l (omega (tests, z)))
 
-rows-effect : (e : Effect) (a : Account) → Rows (a .pending) → Rows (applied e a .pending)
-rows-effect e a r = (
-  slots-length (e .first) (e .amount) (a .pending .count) (e .due) (a .pending .dues) (omega (arith, r .0)) ∙ r .0,
-  slots-length (e .first) (e .amount) (a .pending .count) (e .amount) (a .pending .amounts) (omega (arith, r .1)) ∙ r .1,
-)
+rows-effect : (e : Effect) (a : Account) → Room (e .first) (e .amount) (a .pending .count) → Rows (a .pending) → Rows (applied e a .pending)
+rows-effect e a m r =
+    let n = a .pending .count in
+    let k = slotFor (e .due) n (a .pending .dues) in
+    let w = slot-for (e .due) n (a .pending .dues) .within in (
+      slots-length (e .first) (e .amount) k n (e .due) (a .pending .dues) (omega (arith, r .0)) (λ f x. (w, omega (arith, m .1 f x, r .0))) ∙ r .0,
+      slots-length (e .first) (e .amount) k n (e .amount) (a .pending .amounts) (omega (arith, r .1)) (λ f x. (w, omega (arith, m .1 f x, r .1))) ∙ r .1,
+    )
 
 module _ (G : Property) where
   -- of a sporadic thread with these entries
@@ -94,9 +100,9 @@ module _ (G : Property) where
     theirs xs e h = rw (thread-other s j lj t a z (r .0) (r .1) i (λ q. e (sym q)), pending-other s j lj t a z (r .0) (r .1) i (λ q. e (sym q))) h
 
   -- what a rule did to thread j
-  module _ (i j : ℕ) (lj : j < 32) (s : State) (z : All (sizeTests s)) (e : Effect) where
+  module _ (i j : ℕ) (lj : j < 32) (s : State) (z : All (sizeTests s)) (e : Effect) (m : Room (e .first) (e .amount) (getD (s .counts) j 0)) where
     rows : Rows (applied e (accountAt s j) .pending)
-    rows = rows-effect e (accountAt s j) (rows-at s z j lj)
+    rows = rows-effect e (accountAt s j) m (rows-at s z j lj)
 
     abbrev lists : List ℕ
     lists = sentTo (e .place) j (threadAt s j .parameters) (s .lists)
@@ -136,9 +142,9 @@ module _ (G : Property) (L : StepRules G) where
 
   module _ (i : ℕ) (l : i < 32) (lo : ℕ → ℕ) where
     -- the first of thread j
-    first-seen : (j : ℕ) → j < 32 → (s : State) → SoundFrom lo s → s .now ≤ lo j + 1 → firstIsDue (s .now) (pendingAt s j) ≡ true → (xs : List Step) → Seen G i s xs
+    first-seen : (j : ℕ) → j < 32 → (s : State) → SoundFrom lo s → firstIsDue (s .now) (pendingAt s j) ≡ true → (xs : List Step) → Seen G i s xs
         → Seen G i (firstReturned j s) (xs ++ stepsOf i (returnLog j s ∷ []))
-    first-seen j lj s h n e xs q = go (ℕ-discrete j i)
+    first-seen j lj s h e xs q = go (ℕ-discrete j i)
       where
         here : j ≡ i → G (s .now) (isBlocked (threadAt s j)) (threadAt s j .parameters) (applied (backOf j s) (accountAt s j))
             (xs ++ effect (s .now) (threadAt s j .parameters .period) (backOf j s) ∷ [])
@@ -146,27 +152,30 @@ module _ (G : Property) (L : StepRules G) where
             let c = subst⁻¹ (λ (k : ℕ). Seen G k s xs) d q in
             let o = own (s .header .start) (s .now) (lo j) (ltb j (s .header .n)) (threadAt s j) (pendingAt s j) (h .each j lj) (c .0) in
             L .returns (s .header .start) (s .now) (lo j) (runsUpper (isBlocked (threadAt s j)) (threadAt s j .parameters) (accountAt s j)) (isBlocked (threadAt s j))
-            (threadAt s j .parameters) (accountAt s j) xs (c .1) (o .account) n e
+            (threadAt s j .parameters) (accountAt s j) xs (c .1) (o .account) e
+
+        room : Room (backOf j s .first) (backOf j s .amount) (getD (s .counts) j 0)
+        room = return-room (s .now) (threadAt s j .parameters) (threadAt s j .server) (isBlocked (threadAt s j)) (getD (s .counts) j 0) (getD (pendingAt s j .amounts) 0 0)
 
         go : Dec (j ≡ i) → Seen G i (firstReturned j s) (xs ++ stepsOf i (returnLog j s ∷ []))
         go (yes d) =
             subst⁻¹ (λ (ys : List Step). Seen G i (firstReturned j s) (xs ++ ys))
             (ap (λ (k : ℕ). stepsOf k (returnLog j s ∷ [])) (sym d) ∙ mine-step j (effect (s .now) (threadAt s j .parameters .period) (backOf j s)) [])
-            (own-effect G i j lj s (h .sizes) (backOf j s) (xs ++ effect (s .now) (threadAt s j .parameters .period) (backOf j s) ∷ []) d
+            (own-effect G i j lj s (h .sizes) (backOf j s) room (xs ++ effect (s .now) (threadAt s j .parameters .period) (backOf j s) ∷ []) d
             (subst⁻¹ (λ (k : ℕ). Seen G k s xs) d q .0, here d))
         go (no d) =
             subst⁻¹ (λ (ys : List Step). Seen G i (firstReturned j s) (xs ++ ys)) (their-step i j (effect (s .now) (threadAt s j .parameters .period) (backOf j s)) [] d)
-            (none-more G i (firstReturned j s) xs (other-effect G i j lj s (h .sizes) (backOf j s) xs d q))
+            (none-more G i (firstReturned j s) xs (other-effect G i j lj s (h .sizes) (backOf j s) room xs d q))
 
     -- all of thread j that are due
-    replenish-seen : (k j : ℕ) → j < 32 → (s : State) → SoundFrom lo s → s .now ≤ lo j + 1 → (xs : List Step) → Seen G i s xs
+    replenish-seen : (k j : ℕ) → j < 32 → (s : State) → SoundFrom lo s → (xs : List Step) → Seen G i s xs
         → Seen G i (replenish k j s) (xs ++ stepsOf i (replenishLog k j s))
     unfolding replenish replenishLog
-    replenish-seen zero j lj s h n xs q = none-more G i s xs q
-    replenish-seen (suc k) j lj s h n xs q =
+    replenish-seen zero j lj s h xs q = none-more G i s xs q
+    replenish-seen (suc k) j lj s h xs q =
         go (firstIsDue (s .now) (pendingAt s j)) refl
-        (λ e. replenish-seen k j lj (firstReturned j s) (first-returned-sound lo s h j lj (due-some (s .now) (pendingAt s j) e)) n
-        (xs ++ stepsOf i (returnLog j s ∷ [])) (first-seen j lj s h n e xs q))
+        (λ e. replenish-seen k j lj (firstReturned j s) (first-returned-sound lo s h j lj (due-some (s .now) (pendingAt s j) e))
+        (xs ++ stepsOf i (returnLog j s ∷ [])) (first-seen j lj s h e xs q))
       where
         go : (b : Bool) → firstIsDue (s .now) (pendingAt s j) ≡ b
             → (firstIsDue (s .now) (pendingAt s j) ≡ true → Seen G i (replenish k j (firstReturned j s)) ((xs ++ stepsOf i (returnLog j s ∷ [])) ++ stepsOf i (replenishLog k j (firstReturned j s))))
@@ -179,21 +188,17 @@ module _ (G : Property) (L : StepRules G) where
         go false e f = none-more G i s xs q
 
   -- by thread number
-  pub below-seen : (i : ℕ) → i < 32 → (n : ℕ) → n ≤ 32 → (lo : ℕ → ℕ) (s : State) → SoundFrom lo s → ((j : ℕ) → s .now ≤ lo j + 1) → (xs : List Step) → Seen G i s xs
+  pub below-seen : (i : ℕ) → i < 32 → (n : ℕ) → n ≤ 32 → (lo : ℕ → ℕ) (s : State) → SoundFrom lo s → (xs : List Step) → Seen G i s xs
       → Seen G i (replenishBelow n s) (xs ++ stepsOf i (belowLog n s))
   unfolding replenishBelow belowLog
-  below-seen i l zero m lo s h f xs q = none-more G i s xs q
-  below-seen i l (suc n) m lo s h f xs q =
+  below-seen i l zero m lo s h xs q = none-more G i s xs q
+  below-seen i l (suc n) m lo s h xs q =
       let u = replenishBelow n s in
       subst⁻¹ (λ (ys : List Step). Seen G i (replenish (getD (u .counts) n 0) n u) ys)
       (ap (λ (ys : List Step). xs ++ ys) (steps-more i (belowLog n s) (replenishLog (getD (u .counts) n 0) n u))
       ∙ sym (append-assoc xs (stepsOf i (belowLog n s)) (stepsOf i (replenishLog (getD (u .counts) n 0) n u))))
-      (replenish-seen i l (turns (s .now) n lo) (getD (u .counts) n 0) n (omega arith) u (below-sound lo n s (omega arith) h) (near (ltb n n)) (xs ++ stepsOf i (belowLog n s))
-      (below-seen i l n (omega arith) lo s h f xs q))
-    where
-      near : (b : Bool) → replenishBelow n s .now ≤ cond b (s .now) (lo n) + 1
-      near true = omega (arith, now-below n s)
-      near false = omega (arith, now-below n s, f n)
+      (replenish-seen i l (turns (s .now) n lo) (getD (u .counts) n 0) n (omega arith) u (below-sound lo n s (omega arith) h) (xs ++ stepsOf i (belowLog n s))
+      (below-seen i l n (omega arith) lo s h xs q))
 
   -- ---- the limit and the end of a quantum
 
@@ -208,11 +213,16 @@ module _ (G : Property) (L : StepRules G) where
     abbrev limited : ℕ → Effect
     limited j = limitEffect (s .now) false (threadAt s j .parameters) (threadAt s j .server)
 
+    -- there is room for U
+    spent-room : (j : ℕ) → getD (s .counts) j 0 < 8 → Room (limited j .first) (limited j .amount) (getD (s .counts) j 0)
+    spent-room j c =
+        (λ f. false-true (sym (limit-keeps (s .now) (threadAt s j .parameters) (threadAt s j .server) false) ∙ f), λ f x. c)
+
     -- of thread i
     own-limit : threadAt s i .server .capacity ≡ 0 → Spent i lo s
         → Seen G i (withEffect i (limited i) s) (xs ++ limitStep ∷ effect (s .now) (threadAt s i .parameters .period) (limited i) ∷ [])
     own-limit c y =
-        own-effect G i i l s z (limited i) _ refl (
+        own-effect G i i l s z (limited i) (spent-room i (omega (arith, y .2, y .3))) _ refl (
           q .0,
           subst⁻¹ (λ (b : Bool). G (s .now) b (threadAt s i .parameters) (applied (limited i) (accountAt s i)) (xs ++ limitStep ∷ effect (s .now) (threadAt s i .parameters .period) (limited i) ∷ [])) (y .0)
               (L .limits (s .header .start) (s .now) lo (threadAt s i .parameters) (accountAt s i) xs
@@ -220,9 +230,11 @@ module _ (G : Property) (L : StepRules G) where
         )
 
     -- of a running thread j
-    at-thread : (j : ℕ) → j < 32 → (j ≡ i → (eqb (level s) (threadAt s i .parameters .priority) && eqb (threadAt s i .server .capacity) 0) ≡ true → Spent i lo s)
+    at-thread : (j : ℕ) → j < 32
+        → (1 < threadAt s j .parameters .policy → (eqb (level s) (threadAt s j .parameters .priority) && eqb (threadAt s j .server .capacity) 0) ≡ true → getD (s .counts) j 0 < 8)
+        → (j ≡ i → (eqb (level s) (threadAt s i .parameters .priority) && eqb (threadAt s i .server .capacity) 0) ≡ true → Spent i lo s)
         → Seen G i (limitsOf (level s) j (threadAt s j) s) (xs ++ stepsOf i (limitLogOf (level s) j (threadAt s j) s))
-    at-thread j lj f = go (ℕ-discrete j i)
+    at-thread j lj r f = go (ℕ-discrete j i)
       where
         here : Seen G i (limitsOf (level s) i (threadAt s i) s) (xs ++ stepsOf i (limitLogOf (level s) i (threadAt s i) s))
             → j ≡ i → Seen G i (limitsOf (level s) j (threadAt s j) s) (xs ++ stepsOf i (limitLogOf (level s) j (threadAt s j) s))
@@ -245,7 +257,7 @@ module _ (G : Property) (L : StepRules G) where
             (by-two {A = Log} (threadAt s i .parameters .policy) _ _ _ (q .0))
             (mine-too d (eqb (level s) (threadAt s i .parameters .priority) && eqb (threadAt s i .server .capacity) 0) refl)))
             d
-        go (no d) = others (threadAt s j .parameters .policy) (eqb (threadAt s j .left) 0) (eqb (level s) (threadAt s j .parameters .priority) && eqb (threadAt s j .server .capacity) 0)
+        go (no d) = others (threadAt s j .parameters .policy) refl (eqb (threadAt s j .left) 0) (eqb (level s) (threadAt s j .parameters .priority) && eqb (threadAt s j .server .capacity) 0) refl
           where
             quiet : Seen G i s (xs ++ [])
             quiet = none-more G i s xs q
@@ -257,33 +269,35 @@ module _ (G : Property) (L : StepRules G) where
                 (subst⁻¹ (λ (u : State). Seen G i (withLists (moved j (level s) (level s) (s .lists)) u) xs) (thread-account j (withLeft (threadAt s j .parameters .budget) (threadAt s j)) s)
                 (theirs G i j lj s z (withLeft (threadAt s j .parameters .budget) (threadAt s j)) (accountAt s j) (rows-at s z j lj) (moved j (level s) (level s) (s .lists)) xs d q)))
 
-            reached : Seen G i (withEffect j (limitEffect (s .now) false (threadAt s j .parameters) (threadAt s j .server)) s)
+            reached : getD (s .counts) j 0 < 8 → Seen G i (withEffect j (limitEffect (s .now) false (threadAt s j .parameters) (threadAt s j .server)) s)
                 (xs ++ stepsOf i (happens j limitStep ∷ ruled j (limitEffect (s .now) false (threadAt s j .parameters) (threadAt s j .server)) s ∷ []))
-            reached =
+            reached c =
                 subst⁻¹ (λ (ys : List Step). Seen G i (withEffect j (limited j) s) (xs ++ ys))
                 (their-step i j limitStep (ruled j (limited j) s ∷ []) d ∙ their-step i j (effect (s .now) (threadAt s j .parameters .period) (limited j)) [] d)
-                (none-more G i (withEffect j (limited j) s) xs (other-effect G i j lj s z (limited j) xs d q))
+                (none-more G i (withEffect j (limited j) s) xs (other-effect G i j lj s z (limited j) (spent-room j c) xs d q))
 
-            others : (c : ℕ) (a b : Bool)
+            others : (c : ℕ) → threadAt s j .parameters .policy ≡ c → (a b : Bool) → (eqb (level s) (threadAt s j .parameters .priority) && eqb (threadAt s j .server .capacity) 0) ≡ b
                 → Seen G i (byPolicy c s (cond a (quantumEnded (level s) j (threadAt s j) s) s) (cond b (withEffect j (limitEffect (s .now) false (threadAt s j .parameters) (threadAt s j .server)) s) s))
                 (xs ++ stepsOf i (byPolicy c [] (cond a (happens j quantumStep ∷ []) [])
                 (cond b (happens j limitStep ∷ ruled j (limitEffect (s .now) false (threadAt s j .parameters) (threadAt s j .server)) s ∷ []) [])))
-            others zero a b = quiet
-            others (suc zero) true b = ended
-            others (suc zero) false b = quiet
-            others (suc (suc c)) a true = reached
-            others (suc (suc c)) a false = quiet
+            others zero y a b e = quiet
+            others (suc zero) y true b e = ended
+            others (suc zero) y false b e = quiet
+            others (suc (suc c)) y a true e = reached (r (omega (arith, y)) e)
+            others (suc (suc c)) y a false e = quiet
 
     pub limits-seen : (idles s ≡ false → head s < 32)
+        → (idles s ≡ false → 1 < threadAt s (head s) .parameters .policy → (eqb (level s) (threadAt s (head s) .parameters .priority) && eqb (threadAt s (head s) .server .capacity) 0) ≡ true
+        → getD (s .counts) (head s) 0 < 8)
         → (idles s ≡ false → head s ≡ i → (eqb (level s) (threadAt s i .parameters .priority) && eqb (threadAt s i .server .capacity) 0) ≡ true → Spent i lo s)
         → Seen G i (limits s) (xs ++ stepsOf i (limitLog s))
     unfolding limits limitLog
-    limits-seen small f = go (idles s) refl
+    limits-seen small r f = go (idles s) refl
       where
         go : (b : Bool) → idles s ≡ b
             → Seen G i (cond b s (limitsOf (level s) (head s) (threadAt s (head s)) s)) (xs ++ stepsOf i (cond b [] (limitLogOf (level s) (head s) (threadAt s (head s)) s)))
         go true e = none-more G i s xs q
-        go false e = at-thread (head s) (small e) (f e)
+        go false e = at-thread (head s) (small e) (r e) (f e)
 
   -- ---- ticks
 

@@ -21,8 +21,8 @@ use Rattle.account_laws.proofs.SoundLaws.{AccountSound, made}
 use Rattle.reports.specs.Steps.{Step}
 use Rattle.reports.specs.Steps.Step.{ran, limit, effect}
 use Rattle.ledger.specs.Ledger.{ranIn, backIn, sumOf, Ledger, empty, enterEffect, entered}
-use Rattle.ledger.proofs.StepRules.{Property, StepRules}
-use Rattle.ledger.proofs.LedgerLaws.{Matches, charge-matches, activate-matches, once-matches, later-matches, first-matches, first-flow}
+use Rattle.ledger.proofs.StepRules.{Property, StepRules, CarryRule}
+use Rattle.ledger.proofs.LedgerLaws.{Matches, charge-matches, activate-matches, carry-matches, once-matches, later-matches, first-matches, first-flow}
 
 pub record Agrees (p : Parameters) (a : Account) (xs : List Step) : Type 0 where
   pub matches : Matches a (entered empty xs)
@@ -125,7 +125,11 @@ agree-rules =
       passes = λ now k b p a xs h. h;
       charges = λ start now lo k p a xs h s u l. charge-agrees p a xs h k l;
       limits = λ start now lo p a xs h s c c8 z. limit-agrees p a xs h start now lo true s (limitEffect now false p (a .server)) (limit-after p a xs h start now lo true s (λ e. c) c8 z);
-      returns = λ start now lo up b p a xs h s l e. effect-agrees p a xs h start now lo up s (returnFirst now b p a) (return-after p a xs h start now lo up s e b);
+      returns = λ start now lo up b p a xs h s e. effect-agrees p a xs h start now lo up s (returnFirst now b p a) (return-after p a xs h start now lo up s e b);
       blocks = λ start now lo up p a xs h s c c8. effect-agrees p a xs h start now lo up s (blockEffect now false p (a .server)) (scheduled-after p a xs h start now lo up s c c8);
       wakes = λ now p a xs h l. wake-agrees p a xs h now l;
     }
+
+-- 02 E7 2: the budget and the capacity change by as much
+pub agree-carried : CarryRule Agreed
+agree-carried now b old new a s xs h c u l = record { matches = carry-matches a s (entered empty xs) u l (h .matches); flow = omega (arith, h .flow, c) }

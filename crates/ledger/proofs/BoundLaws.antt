@@ -3,10 +3,9 @@ use Prim.Native.Nat.{ℕ, zero, suc, _+_, _-_, _*_, _≤_, _<_}
 use mathlib.Core.Bool.{Bool, true, false, cond}
 use mathlib.Core.Path.{_≡_, refl, sym, ap, ap₂, _∙_, subst}
 use mathlib.Core.List.{List, [], _∷_, _++_, append-nil}
-use lib.ListN.{length, take, getD, set, length-take}
-use lib.Seq.{take-suc-set}
+use lib.ListN.{length, take, drop, getD}
+use lib.Seq.{length-take-le}
 use lib.Dec.{ltb, leb}
-use native.Mathlib.Numerals.{add-one}
 use native.Mathlib.Nat.{mul-le-mul-right}
 use native.Mathlib.Omega.{arith}
 use borrow.Author.Tests.{leb-true, leb-false, lt-ltb, le-ltb, ltb-true, ltb-false, eq-eqb, ne-eqb}
@@ -15,11 +14,14 @@ use Rattle.records.specs.declared.Parameters.{Parameters}
 use Rattle.sporadic.specs.declared.Effect.{Effect}
 use Rattle.sporadic.specs.Rules.{dueOf, cleared, charged, activated, atUpper, pendingLater, backAtOnce, scheduled, limitEffect, wakeEffect, firstBack}
 use Rattle.sporadic.proofs.EffectLaws.{schedule-elim, at-limit-elim, return-elim}
+use Rattle.entries.proofs.InsertLaws.{slot-for, parts, inserted-part}
 use Rattle.account.specs.declared.Account.{Account}
 use Rattle.account.specs.Account.{pendingDues, pendingAmounts, isUpper}
-use Rattle.account.specs.Rules.{withoutFirst, applied, firstIsDue, returnFirst}
+use Rattle.account.specs.Rules.{withoutFirst, slotFor, applied, firstIsDue, returnFirst}
 use Rattle.account.specs.Sound.{sum}
+use Rattle.account.proofs.EntryLaws.{withEntry}
 use Rattle.account.proofs.ReturnLaws.{due-some}
+use Rattle.account_laws.proofs.OrderLaws.{sum-among}
 use Rattle.account_laws.proofs.SoundLaws.{AccountSound, made, upper-room}
 use Rattle.reports.specs.Steps.{Step}
 use Rattle.reports.specs.Steps.Step.{ran}
@@ -46,20 +48,16 @@ before-sum end (d ∷ ds) (x ∷ xs) = go (ltb d end) (before-sum end ds xs)
     go true l = omega arith
     go false l = omega arith
 
--- one more, that is due at the end or later
-before-more : (end : ℕ) (ds xs : List ℕ) (d x : ℕ) → length ds ≡ length xs → end ≤ d → before end (ds ++ d ∷ []) (xs ++ x ∷ []) ≡ before end ds xs
-before-more end [] [] d x e l = rw (le-ltb d end l) refl
-before-more end [] (y ∷ xs) d x e l = absurd (omega (arith, e))
-before-more end (c ∷ ds) [] d x e l = absurd (omega (arith, e))
-before-more end (c ∷ ds) (y ∷ xs) d x e l = ap (λ (n : ℕ). cond (ltb c end) y 0 + n) (before-more end ds xs d x (omega (arith, e)) l)
+-- one more among them, that is due at the end or later
+before-among : (end : ℕ) (ds xs es ys : List ℕ) (d x : ℕ) → length ds ≡ length xs → end ≤ d → before end (ds ++ d ∷ es) (xs ++ x ∷ ys) ≡ before end (ds ++ es) (xs ++ ys)
+before-among end [] [] es ys d x e l = rw (le-ltb d end l) (omega arith)
+before-among end [] (y ∷ xs) es ys d x e l = absurd (omega (arith, e))
+before-among end (c ∷ ds) [] es ys d x e l = absurd (omega (arith, e))
+before-among end (c ∷ ds) (y ∷ xs) es ys d x e l = ap (λ (n : ℕ). cond (ltb c end) y 0 + n) (before-among end ds xs es ys d x (omega (arith, e)) l)
 
 -- the first, that is due before the end
 before-first : (end : ℕ) (ds xs : List ℕ) (d x : ℕ) → d < end → before end (d ∷ ds) (x ∷ xs) ≡ x + before end ds xs
 before-first end ds xs d x l = rw (lt-ltb d end l) refl
-
-sums-more : (x : ℕ) (xs : List ℕ) → sum (xs ++ x ∷ []) ≡ sum xs + x
-sums-more x [] = omega arith
-sums-more x (y ∷ ys) = omega (arith, sums-more x ys)
 
 -- ---- the two phases of a stretch that begins at `from`; x ticks were run in it up to now
 
@@ -171,37 +169,63 @@ module _ (from : ℕ) (p : Parameters) where
     once b s u d (second r) =
         kept from now b true p a (applied (backAtOnce p (a .server)) a) x r (λ n. absurd (omega (arith, r .used u))) (λ z. absurd (omega arith)) (λ e. false-true (sym e))
 
-    -- the account with U pending
+    -- the account with U pending, in due order
     abbrev laterAccount : Account
-    laterAccount =
-        made (cleared (a .server)) (record {
-          count = a .pending .count + 1;
-          dues = set (a .pending .dues) (a .pending .count) (dueOf p (a .server));
-          amounts = set (a .pending .amounts) (a .pending .count) (a .server .used);
-        })
+    laterAccount = made (cleared (a .server)) (withEntry (dueOf p (a .server)) (a .server .used) (a .pending))
 
     later-made : (b : Bool) → AccountSound start now lo true p a → a .pending .count < p .«max_repl» → p .«max_repl» ≤ 8 → 0 < a .server .used → Phase from now b p a x
         → Phase from now true p laterAccount x
     later-made b s c c8 u h = go h
       where
-        ds : pendingDues (laterAccount .pending) ≡ pendingDues (a .pending) ++ dueOf p (a .server) ∷ []
-        ds = rw add-one (take-suc-set (a .pending .dues) (a .pending .count) (dueOf p (a .server)) (omega (tests, s .dueSlots .0)))
+        n : ℕ
+        n = a .pending .count
 
-        xs : pendingAmounts (laterAccount .pending) ≡ pendingAmounts (a .pending) ++ a .server .used ∷ []
-        xs = rw add-one (take-suc-set (a .pending .amounts) (a .pending .count) (a .server .used) (omega (tests, s .amountSlots .0)))
+        k : ℕ
+        k = slotFor (dueOf p (a .server)) (a .pending .count) (a .pending .dues)
 
-        lengths : length (pendingDues (a .pending)) ≡ length (pendingAmounts (a .pending))
-        lengths = omega (tests, length-take (a .pending .count) (a .pending .dues), length-take (a .pending .count) (a .pending .amounts), s .dueSlots .0, s .amountSlots .0)
+        within : k ≤ n
+        within = slot-for (dueOf p (a .server)) (a .pending .count) (a .pending .dues) .within
+
+        ld : n < length (a .pending .dues)
+        ld = omega (tests, s .dueSlots .0)
+
+        lx : n < length (a .pending .amounts)
+        lx = omega (tests, s .amountSlots .0)
+
+        front : List ℕ → List ℕ
+        front ys = take k ys
+
+        rest : List ℕ → List ℕ
+        rest ys = take (n - k) (drop k ys)
+
+        -- the dues and the amounts, before and after
+        ds : pendingDues (a .pending) ≡ front (a .pending .dues) ++ rest (a .pending .dues)
+        ds = parts k n (dueOf p (a .server)) (a .pending .dues) within ld
+
+        xs : pendingAmounts (a .pending) ≡ front (a .pending .amounts) ++ rest (a .pending .amounts)
+        xs = parts k n (a .server .used) (a .pending .amounts) within lx
+
+        ds-after : pendingDues (laterAccount .pending) ≡ front (a .pending .dues) ++ dueOf p (a .server) ∷ rest (a .pending .dues)
+        ds-after = inserted-part k n (dueOf p (a .server)) (a .pending .dues) within ld
+
+        xs-after : pendingAmounts (laterAccount .pending) ≡ front (a .pending .amounts) ++ a .server .used ∷ rest (a .pending .amounts)
+        xs-after = inserted-part k n (a .server .used) (a .pending .amounts) within lx
+
+        lengths : length (front (a .pending .dues)) ≡ length (front (a .pending .amounts))
+        lengths = length-take-le k (a .pending .dues) (omega (arith, within, ld)) ∙ sym (length-take-le k (a .pending .amounts) (omega (arith, within, lx)))
 
         go : Phase from now b p a x → Phase from now true p laterAccount x
         go (first m) =
-            begins laterAccount (omega (tests, s .sums .0)) (omega (tests, s .sums .0, ap sum xs, sums-more (a .server .used) (pendingAmounts (a .pending)))) refl
+            begins laterAccount (omega (tests, s .sums .0))
+            (omega (tests, s .sums .0, ap sum xs, ap sum xs-after, sum-among (a .server .used) (front (a .pending .amounts)) (rest (a .pending .amounts)))) refl
         go (second r) =
             kept from now b true p a laterAccount x r
-            (λ n. omega (
+            (λ y. omega (
               arith,
               ap₂ (before (r .mark + p .period)) ds xs,
-              before-more (r .mark + p .period) (pendingDues (a .pending)) (pendingAmounts (a .pending)) (dueOf p (a .server)) (a .server .used) lengths (omega (arith, r .used u)),
+              ap₂ (before (r .mark + p .period)) ds-after xs-after,
+              before-among (r .mark + p .period) (front (a .pending .dues)) (front (a .pending .amounts)) (rest (a .pending .dues)) (rest (a .pending .amounts))
+                  (dueOf p (a .server)) (a .server .used) lengths (omega (arith, r .used u)),
             ))
             (λ z. absurd (omega arith)) (λ e. false-true (sym e))
 
@@ -372,7 +396,7 @@ module _ (q : Parameters) (from : ℕ) where
         charges = λ start now lo k p a xs h s u l. charge-bounded start now lo k p a xs h s u l;
         limits = λ start now lo p a xs h s c c8 z.
             still q from now now false false p a _ xs _ h (omega arith) refl (limited (h .begin) p start now lo a (h .x) (h .elapsed) s c c8 z (h .phase));
-        returns = λ start now lo up b p a xs h s l e.
+        returns = λ start now lo up b p a xs h s e.
             still q from now now b b p a _ xs _ h (omega arith) refl (return (h .begin) start now lo up p a (h .x) s e b (h .phase));
         blocks = λ start now lo up p a xs h s c c8.
             still q from now now false true p a _ xs _ h (omega arith) refl (schedule (h .begin) p start now lo a (h .x) (h .elapsed) up false s c c8 (h .phase));
@@ -418,7 +442,7 @@ elapsed-rules from =
       passes = λ now k b p a xs h. omega arith;
       charges = λ start now lo k p a xs h s u l. omega (arith, sum-more ranIn xs (ran k (a .server .activation) ∷ []));
       limits = λ start now lo p a xs h s c c8 z. no-more from now xs _ refl h;
-      returns = λ start now lo up b p a xs h s l e. no-more from now xs _ refl h;
+      returns = λ start now lo up b p a xs h s e. no-more from now xs _ refl h;
       blocks = λ start now lo up p a xs h s c c8. no-more from now xs _ refl h;
       wakes = λ now p a xs h l. h;
     }

@@ -3,14 +3,14 @@ use Prim.Native.Nat.{ℕ, _+_}
 use mathlib.Core.Bool.{Bool, true, false, cond}
 use mathlib.Core.Path.{_≡_, refl, ap, _∙_}
 use mathlib.Core.List.{List, [], _∷_, _++_}
-use lib.Dec.{leb, eqb}
+use lib.Dec.{eqb}
 use native.Mathlib.Omega.{arith}
 use borrow.Author.Tests.{eqb-true, eqb-false}
 use Rattle.base.proofs.TestLaws.{cond-elim}
 use Rattle.sporadic.specs.declared.Effect.{Effect}
 use Rattle.reports.specs.Steps.{Step}
 use Rattle.reports.specs.Steps.Step.{ran, quantum, limit, effect}
-use Rattle.ledger.specs.Ledger.{backIn, sumOf, Run, Entry, Return, Ledger, empty, filed, returnOf, firstReturn, afterFirst, withFirstBack, withEntry, withChargedBack, enterEffect, enter, entered, ticksOf, amountsOf, ticksUnder, pendingUnder, returnedUnder, ranUnder, LedgerComplete}
+use Rattle.ledger.specs.Ledger.{backIn, sumOf, Run, Entry, Return, Ledger, empty, precedes, filed, returnOf, firstReturn, afterFirst, withFirstBack, withEntry, withChargedBack, enterEffect, enter, entered, ticksOf, amountsOf, ticksUnder, pendingUnder, returnedUnder, ranUnder, LedgerComplete}
 
 pub ticks-more : (rs : List Run) (r : Run) → ticksOf (rs ++ r ∷ []) ≡ ticksOf rs + r .ticks
 ticks-more [] r = omega arith
@@ -56,7 +56,7 @@ module _ (x : ℕ) where
 
   filed-under : (y : Entry) (ys : List Entry) → pendingUnder x (filed y ys) ≡ ticksUnder x (y .runs) + pendingUnder x ys
   filed-under y [] = refl
-  filed-under y (z ∷ ys) = go (leb (z .due) (y .due)) (filed-under y ys)
+  filed-under y (z ∷ ys) = go (precedes z y) (filed-under y ys)
     where
       go : (b : Bool) → pendingUnder x (filed y ys) ≡ ticksUnder x (y .runs) + pendingUnder x ys
           → pendingUnder x (cond b (z ∷ filed y ys) (y ∷ z ∷ ys)) ≡ ticksUnder x (y .runs) + (ticksUnder x (z .runs) + pendingUnder x ys)

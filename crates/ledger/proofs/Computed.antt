@@ -1,7 +1,7 @@
 -- A ledger, by computing.
 use Prim.Native.Nat.{ℕ}
 use mathlib.Core.Path.{_≡_, refl}
-use mathlib.Core.List.{List, [], _∷_}
+use mathlib.Core.List.{List, [], _∷_, _++_}
 use native.Mathlib.Omega.{arith}
 use Rattle.records.specs.declared.Parameters.{Parameters}
 use Rattle.sporadic.specs.declared.Server.{Server}
@@ -52,6 +52,38 @@ sums-row = refl
 -- the first 6 come back a period after the activation time, to the tick
 late-row : Late (entered empty steps .returns)
 late-row = (refl, (omega arith, (omega arith, tt)), (refl, (omega arith, (omega arith, tt)), tt))
+
+-- 02 E7 3 and 8: 3 ticks under 0 are due at 100; then the period is set to 20, and 7 under 4 are due at 24, before them, and 2 under 80 at
+-- 100, after those of equal due; each comes back with the period that it was scheduled with
+abbrev quicker : Parameters
+quicker = record { policy = 2; priority = 20; low = 5; «max_repl» = 3; flag = 0; budget = 12; period = 20 }
+
+abbrev slower : Parameters
+slower = record { policy = 2; priority = 20; low = 5; «max_repl» = 3; flag = 0; budget = 12; period = 100 }
+
+abbrev carried : List Step
+carried =
+    ran 3 0
+    ∷ effect 3 100 (pendingLater slower (with 3 0))
+    ∷ ran 7 4
+    ∷ effect 11 20 (pendingLater quicker (with 7 4))
+    ∷ ran 2 80
+    ∷ effect 82 20 (pendingLater quicker (with 2 80))
+    ∷ []
+
+carried-row : entered empty carried .pending
+    ≡ record { due = 24; period = 20; runs = run 7 4 ∷ [] }
+    ∷ record { due = 100; period = 100; runs = run 3 0 ∷ [] }
+    ∷ record { due = 100; period = 20; runs = run 2 80 ∷ [] }
+    ∷ []
+carried-row = refl
+
+back-row : entered empty (carried ++ effect 100 20 (firstBack quicker 7 (with 0 80)) ∷ effect 100 20 (firstBack quicker 3 (with 0 80)) ∷ effect 100 20 (firstBack quicker 2 (with 0 80)) ∷ []) .returns
+    ≡ record { amount = 7; time = 100; period = 20; runs = run 7 4 ∷ [] }
+    ∷ record { amount = 3; time = 100; period = 100; runs = run 3 0 ∷ [] }
+    ∷ record { amount = 2; time = 100; period = 20; runs = run 2 80 ∷ [] }
+    ∷ []
+back-row = refl
 
 -- a tick earlier is too early
 early-row : Late (record { amount = 6; time = 39; period = 40; runs = run 6 0 ∷ [] } ∷ []) → ⊥

@@ -1,26 +1,27 @@
 -- The ledger agrees with the account, Effect by Effect.
 use Prim.Native.Nat.{ℕ, zero, suc, _+_, _-_, _≤_, _<_, min}
 use mathlib.Core.Bool.{Bool, true, false, _&&_}
-use mathlib.Core.Path.{_≡_, refl, sym, ap, ap₂, _∙_}
-use mathlib.Core.List.{List, [], _∷_, _++_, map}
-use lib.ListN.{length, take, getD, set}
-use lib.Seq.{take-append-le, take-suc-set}
+use mathlib.Core.Path.{_≡_, refl, sym, ap, _∙_}
+use mathlib.Core.List.{List, [], _∷_, _++_}
+use lib.ListN.{length, take, getD}
+use lib.Seq.{take-append-le}
 use lib.Dec.{ltb, leb}
-use native.Mathlib.Numerals.{add-one}
 use native.Mathlib.Omega.{arith}
-use borrow.Author.Tests.{le-leb, ne-eqb, leb-true}
-use Rattle.base.proofs.TestLaws.{tests, All, false-true}
+use borrow.Author.Tests.{ne-eqb, leb-true}
+use Rattle.base.proofs.TestLaws.{tests, cond-elim, false-true}
 use Rattle.records.specs.declared.Parameters.{Parameters}
+use Rattle.sporadic.specs.declared.Server.{Server}
 use Rattle.sporadic.specs.Rules.{charged, dueOf, activated, replenished, pendingLater, backAtOnce, firstBack}
 use Rattle.account.specs.declared.Account.{Account}
 use Rattle.account.specs.Account.{pendingDues, pendingAmounts}
 use Rattle.account.specs.Rules.{withoutFirst, applied, firstIsDue}
-use Rattle.account.specs.Sound.{sum, dueTests}
+use Rattle.account.specs.Sound.{sum, lastDue}
 use Rattle.account.proofs.ReturnLaws.{due-some}
 use Rattle.account_laws.proofs.SoundLaws.{AccountSound, made}
 use Rattle.reports.specs.Steps.Step.{ran}
-use Rattle.ledger.specs.Ledger.{Run, Entry, Return, Ledger, filed, enterEffect, enter, ticksOf, RunBefore, Late}
+use Rattle.ledger.specs.Ledger.{Run, Entry, Return, Ledger, precedes, filed, entryOf, enterEffect, enter, ticksOf, RunBefore, Late}
 use Rattle.ledger.proofs.CompleteLaws.{ticks-more}
+use Rattle.ledger.proofs.FiledLaws.{dueList, amountList, filed-slots}
 
 -- ---- lists
 
@@ -54,32 +55,9 @@ abbrev pub Kept : List Entry → Type 0
 Kept [] = Unit {0}
 Kept (x ∷ xs) = RunBefore (x .period) (x .due) (x .runs) × Kept xs
 
-abbrev pub dueList : List Entry → List ℕ
-dueList xs = map (λ (x : Entry). x .due) xs
-
-abbrev pub amountList : List Entry → List ℕ
-amountList xs = map (λ (x : Entry). ticksOf (x .runs)) xs
-
--- an entry that is due no earlier than the others is filed behind them
-abbrev NoneAfter : ℕ → List ℕ → Type 0
-NoneAfter d [] = Unit {0}
-NoneAfter d (x ∷ xs) = (x ≤ d) × NoneAfter d xs
-
-filed-last : (x : Entry) (xs : List Entry) → NoneAfter (x .due) (dueList xs) → filed x xs ≡ xs ++ x ∷ []
-filed-last x [] h = refl
-filed-last x (y ∷ ys) h = rw (le-leb (y .due) (x .due) (h .0)) (ap (λ (l : List Entry). y ∷ l) (filed-last x ys (h .1)))
-
-map-more : (f : Entry → ℕ) (xs : List Entry) (x : Entry) → map f (xs ++ x ∷ []) ≡ map f xs ++ f x ∷ []
-map-more f [] x = refl
-map-more f (y ∷ ys) x = ap (λ (l : List ℕ). f y ∷ l) (map-more f ys x)
-
-kept-more : (xs : List Entry) (x : Entry) → Kept xs → RunBefore (x .period) (x .due) (x .runs) → Kept (xs ++ x ∷ [])
-kept-more [] x h r = (r, tt)
-kept-more (y ∷ ys) x h r = (h .0, kept-more ys x (h .1) r)
-
-before-end : (lo hi d : ℕ) (ds : List ℕ) → hi ≤ d → All (dueTests lo hi ds) → NoneAfter d ds
-before-end lo hi d [] l h = tt
-before-end lo hi d (x ∷ xs) l h = (omega (tests, h .1 .0), before-end x hi d xs l (h .1 .1))
+kept-filed : (x : Entry) (xs : List Entry) → RunBefore (x .period) (x .due) (x .runs) → Kept xs → Kept (filed x xs)
+kept-filed x [] r h = (r, tt)
+kept-filed x (y ∷ ys) r h = cond-elim Kept (precedes y x) (y ∷ filed x ys) (x ∷ y ∷ ys) (λ e. (h .0, kept-filed x ys r (h .1))) (λ e. (r, h))
 
 -- ---- what agrees
 
@@ -115,6 +93,18 @@ activate-matches now a l h m =
       late = m .late;
     }
 
+-- a server that is carried over: U stays, and the activation time doesn't fall
+pub carry-matches : (a : Account) (s : Server) (l : Ledger) → s .used ≡ a .server .used → a .server .activation ≤ s .activation → Matches a l → Matches (made s (a .pending)) l
+carry-matches a s l u h m =
+    record {
+      used = m .used ∙ sym u;
+      under = under-later (a .server .activation) (s .activation) (l .charged) h (m .under);
+      times = m .times;
+      sums = m .sums;
+      kept = m .kept;
+      late = m .late;
+    }
+
 module _ (start now lo : ℕ) (p : Parameters) (a : Account) (l : Ledger) (m : Matches a l) where
   -- U comes back at once
   pub once-matches : 0 < a .server .used → dueOf p (a .server) ≤ now → Matches (applied (backAtOnce p (a .server)) a) (enterEffect now (p .period) (backAtOnce p (a .server)) l)
@@ -134,19 +124,19 @@ module _ (start now lo : ℕ) (p : Parameters) (a : Account) (l : Ledger) (m : M
       → Matches (applied (pendingLater p (a .server)) a) (enterEffect now (p .period) (pendingLater p (a .server)) l)
   later-matches h c c8 u =
       let t = dueOf p (a .server) in
-      let x = a .server .used in
       let n = a .pending .count in
-      let e : Entry = record { due = t; period = p .period; runs = l .charged } in
-      let qd : take (n + 1) (set (a .pending .dues) n t) ≡ take n (a .pending .dues) ++ t ∷ [] = rw add-one (take-suc-set (a .pending .dues) n t (omega (tests, h .dueSlots .0))) in
-      let qx : take (n + 1) (set (a .pending .amounts) n x) ≡ take n (a .pending .amounts) ++ x ∷ [] = rw add-one (take-suc-set (a .pending .amounts) n x (omega (tests, h .amountSlots .0))) in
-      let f : filed e (l .pending) ≡ l .pending ++ e ∷ [] = filed-last e (l .pending) (rw (m .times) (before-end lo t t (pendingDues (a .pending)) (omega arith) (h .times))) in
+      let e = entryOf t (p .period) (l .charged) in
+      let ld : n < length (a .pending .dues) = omega (tests, h .dueSlots .0) in
+      let lx : n < length (a .pending .amounts) = omega (tests, h .amountSlots .0) in
       rw (ne-eqb (a .server .used) 0 (λ z. omega arith))
       (record {
         used = refl;
         under = tt;
-        times = ap dueList f ∙ map-more (λ (x : Entry). x .due) (l .pending) e ∙ ap (λ (ds : List ℕ). ds ++ t ∷ []) (m .times) ∙ sym qd;
-        sums = ap amountList f ∙ map-more (λ (x : Entry). ticksOf (x .runs)) (l .pending) e ∙ ap₂ (λ (xs : List ℕ) (y : ℕ). xs ++ y ∷ []) (m .sums) (m .used) ∙ sym qx;
-        kept = rw f (kept-more (l .pending) e (m .kept) (under-before (a .server .activation) (p .period) t (l .charged) (omega arith) (m .under)));
+        times = filed-slots e (l .pending) (lo + 1) (lastDue now) n (a .pending .dues) ld (m .times) (h .times) (λ (x : Entry). x .due) t (a .pending .dues) ld (m .times) refl;
+        sums =
+            filed-slots e (l .pending) (lo + 1) (lastDue now) n (a .pending .dues) ld (m .times) (h .times) (λ (x : Entry). ticksOf (x .runs)) (a .server .used)
+            (a .pending .amounts) lx (m .sums) (m .used);
+        kept = kept-filed e (l .pending) (under-before (a .server .activation) (e .period) t (l .charged) (omega arith) (m .under)) (m .kept);
         late = m .late;
       })
 

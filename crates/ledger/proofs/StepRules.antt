@@ -4,6 +4,7 @@ use mathlib.Core.Bool.{Bool, true, false}
 use mathlib.Core.Path.{_≡_}
 use mathlib.Core.List.{List, [], _∷_, _++_}
 use Rattle.records.specs.declared.Parameters.{Parameters}
+use Rattle.sporadic.specs.declared.Server.{Server}
 use Rattle.sporadic.specs.Rules.{charged, limitEffect, blockEffect, wakeEffect}
 use Rattle.account.specs.declared.Account.{Account}
 use Rattle.account.specs.Account.{isUpper}
@@ -27,7 +28,7 @@ pub record StepRules (G : Property) : Type 0 where
       → a .pending .count < p .«max_repl» → p .«max_repl» ≤ 8 → a .server .capacity ≡ 0
       → G now false p (applied (limitEffect now false p (a .server)) a) (xs ++ limit ∷ effect now (p .period) (limitEffect now false p (a .server)) ∷ [])
   -- the first entry comes back
-  pub returns : (start now lo : ℕ) (up b : Bool) (p : Parameters) (a : Account) (xs : List Step) → G now b p a xs → AccountSound start now lo up p a → now ≤ lo + 1
+  pub returns : (start now lo : ℕ) (up b : Bool) (p : Parameters) (a : Account) (xs : List Step) → G now b p a xs → AccountSound start now lo up p a
       → firstIsDue now (a .pending) ≡ true → G now b p (applied (returnFirst now b p a) a) (xs ++ effect now (p .period) (returnFirst now b p a) ∷ [])
   -- a block, and a wake
   pub blocks : (start now lo : ℕ) (up : Bool) (p : Parameters) (a : Account) (xs : List Step) → G now false p a xs → AccountSound start now lo up p a
@@ -35,3 +36,10 @@ pub record StepRules (G : Property) : Type 0 where
       → G now true p (applied (blockEffect now false p (a .server)) a) (xs ++ effect now (p .period) (blockEffect now false p (a .server)) ∷ [])
   pub wakes : (now : ℕ) (p : Parameters) (a : Account) (xs : List Step) → G now true p a xs → a .server .activation ≤ now
       → G now false p (applied (wakeEffect now true p (a .pending .count) (a .server)) a) xs
+
+-- What is kept where parameters are set and the account is carried over to them (02 E7 2 and 3): capacity follows the budget, U and the
+-- entries stay, and the activation time doesn't fall.
+abbrev pub CarryRule : Property → Type 0
+CarryRule G =
+    (now : ℕ) (b : Bool) (old new : Parameters) (a : Account) (s : Server) (xs : List Step) → G now b old a xs → s .capacity + old .budget ≡ a .server .capacity + new .budget
+    → s .used ≡ a .server .used → a .server .activation ≤ s .activation → G now b new (made s (a .pending)) xs

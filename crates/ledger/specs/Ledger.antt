@@ -2,7 +2,7 @@
 -- time. A ledger is kept over the steps alone, and knows nothing of the account: each tick is entered where it is run, with the
 -- activation time of that moment; scheduling moves all that is charged into one entry, or back at once.
 use Prim.Native.Nat.{ℕ, _+_, _≤_}
-use mathlib.Core.Bool.{cond}
+use mathlib.Core.Bool.{Bool, cond}
 use mathlib.Core.Path.{_≡_}
 use mathlib.Core.List.{List, [], _∷_, _++_}
 use lib.Dec.{leb, eqb}
@@ -40,7 +40,7 @@ abbrev pub ticksOf : List Run → ℕ
 ticksOf [] = 0
 ticksOf (r ∷ rs) = r .ticks + ticksOf rs
 
--- a pending entry: what it was run in, and the period in force when it was scheduled
+-- a pending entry: what it was run in, and the period in force when it was scheduled (02 E7 8)
 pub record Entry : Type 0 where
   pub due : ℕ
   pub period : ℕ
@@ -65,10 +65,13 @@ ledger c p r = record { charged = c; pending = p; returns = r }
 abbrev pub empty : Ledger
 empty = ledger [] [] []
 
--- an entry in due order, after those of equal due
+-- 02 E7 3: an entry in due order, after those of equal due
+abbrev pub precedes : Entry → Entry → Bool
+precedes y x = leb (y .due) (x .due)
+
 abbrev pub filed : Entry → List Entry → List Entry
 filed x [] = x ∷ []
-filed x (y ∷ ys) = cond (leb (y .due) (x .due)) (y ∷ filed x ys) (x ∷ y ∷ ys)
+filed x (y ∷ ys) = cond (precedes y x) (y ∷ filed x ys) (x ∷ y ∷ ys)
 
 -- so much came back at a time, which was run in these
 abbrev pub returnOf : ℕ → ℕ → ℕ → List Run → List Return
@@ -87,9 +90,12 @@ afterFirst (x ∷ xs) = xs
 abbrev pub withFirstBack : ℕ → ℕ → Ledger → Ledger
 withFirstBack amount time l = ledger (l .charged) (afterFirst (l .pending)) (l .returns ++ firstReturn amount time (l .pending))
 
--- all that is charged becomes an entry
+-- all that is charged becomes an entry, with the period in force (02 E7 8)
+abbrev pub entryOf : ℕ → ℕ → List Run → Entry
+entryOf due period runs = record { due = due; period = period; runs = runs }
+
 abbrev pub withEntry : ℕ → ℕ → Ledger → Ledger
-withEntry due period l = ledger [] (filed (record { due = due; period = period; runs = l .charged }) (l .pending)) (l .returns)
+withEntry due period l = ledger [] (filed (entryOf due period (l .charged)) (l .pending)) (l .returns)
 
 -- all that is charged comes back at once
 abbrev pub withChargedBack : ℕ → ℕ → ℕ → Ledger → Ledger

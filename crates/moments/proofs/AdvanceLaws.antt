@@ -443,12 +443,13 @@ module _ (r : Turn) where
       abbrev Known : Due → ℕ → List ℕ → Type 0
       Known y count dues = NextAfter x j count (getD dues (j * 8) 0) y → y ≡ nextDue (set (s .counts) j count) dues (s .header .n)
 
-      limited-known : eqb m l ≡ true → (e : Effect) → e .first ≡ false → (y : Due) → Known y (pendingAfter e (pendingAt u j) .count) (withSlots j (pendingAfter e (pendingAt u j) .dues) (s .dues))
-      limited-known q e z y f =
-          let w = limit-entries e (pendingAt u j) z (row-length j (s .dues) number-small (omega (tests, g .mid .sizes))) in
+      limited-known : eqb m l ≡ true → (e : Effect) → e .first ≡ false → Room (e .first) (e .amount) (getD (s .counts) j 0)
+          → (y : Due) → Known y (pendingAfter e (pendingAt u j) .count) (withSlots j (pendingAfter e (pendingAt u j) .dues) (s .dues))
+      limited-known q e z r y f =
+          let w = limit-entries e (pendingAt u j) z r (row-length j (s .dues) number-small (omega (tests, g .mid .sizes))) in
           f (set (s .counts) j (pendingAfter e (pendingAt u j) .count)) (withSlots j (pendingAfter e (pendingAt u j) .dues) (s .dues)) (s .header .n)
           (came (s .counts) (s .dues) (s .header .n) j (omega (tests, g .mid .sizes)) number-small (omega (tests, g .mid .sizes)) (omega (tests, g .mid .sizes))
-          (pendingAfter e (pendingAt u j)) (w .0) (λ c. omega (arith, j-head q, here)) (λ c. let z = w .1 c in (z .0, z .1 ∙ row-first j (s .dues))) x (v .first))
+          (pendingAfter e (pendingAt u j)) (w .0) (λ c. omega (arith, j-head q, here)) (λ c. let z = w .1 c in (z .0, omega (arith, z .1, row-first j (s .dues)))) x (v .first))
         where
           here : head s < s .header .n
           here = limited-present (λ i. s .now - 1) s (g .mid) (some b) (limited q) (later b) (not-rr q)
@@ -458,7 +459,8 @@ module _ (r : Turn) where
       limit-due a f e h q p y =
           subst₂ (Known y) (sym (p .count-is)) (sym (p .dues-is))
           (limited-known (sym f ∙ q) e
-          (ap (λ (x : Effect). x .first) (h ∙ cond-true a _ _ q) ∙ limit-keeps m (threadAt u j .parameters) (threadAt u j .server) false) y)
+          (ap (λ (x : Effect). x .first) (h ∙ cond-true a _ _ q) ∙ limit-keeps m (threadAt u j .parameters) (threadAt u j .server) false)
+          (room a f e h) y)
 
       -- ---- what is told of it
 

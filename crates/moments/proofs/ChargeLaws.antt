@@ -17,7 +17,7 @@ use Rattle.account.specs.declared.Pending.{Pending}
 use Rattle.account.specs.declared.Account.{Account}
 use Rattle.account.specs.Account.{isUpper, firstDue}
 use Rattle.sporadic.specs.Rules.{atUpper, charged}
-use Rattle.account.specs.Sound.{runsUpper, dueTests, dueEnd}
+use Rattle.account.specs.Sound.{runsUpper, dueTests, lastDue}
 use Rattle.sporadic.proofs.ChargeLaws as account
 use Rattle.account_laws.proofs.SoundLaws.{AccountSound, time-passes, charge-sound, upper-room}
 use Rattle.ready.specs.Word.{highestOf}
@@ -205,7 +205,7 @@ next-charge lo k s h q =
 first-after : (start now lo : ℕ) (up : Bool) (p : Parameters) (a : Account) → AccountSound start now lo up p a → 0 < a .pending .count → lo < getD (a .pending .dues) 0 0
 first-after start now lo up p a h c = go (a .pending .count) (a .pending .dues) c (omega (tests, h .dueSlots .0)) (h .times)
   where
-    go : (n : ℕ) (ds : List ℕ) → 0 < n → length ds ≡ 8 → All (dueTests lo (dueEnd now up p (a .server)) (take n ds)) → lo < getD ds 0 0
+    go : (n : ℕ) (ds : List ℕ) → 0 < n → length ds ≡ 8 → All (dueTests (lo + 1) (lastDue now) (take n ds)) → lo < getD ds 0 0
     go zero ds c l t = absurd (omega arith)
     go (suc n) [] c l t = absurd (omega arith)
     go (suc n) (d ∷ ds) c l t = omega (tests, t .0)

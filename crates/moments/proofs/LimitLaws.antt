@@ -301,7 +301,7 @@ module _ (lo lo′ : ℕ → ℕ) (k : ℕ) (s : State) (h : SoundFrom lo s) (e 
     unfolding i p spent
     limit-sound =
         subst⁻¹ (SoundFrom (withBound lo′ (head s) (lo′ (head s)))) limits-is
-        (limit-sent (s .header .start) (s .now + k) p (lo′ i) spent spent-sound (omega (arith, room .0)) (omega arith) (room .1) (omega (tests, h .sizes)) low (omega (tests, g))
+        (limit-sent (s .header .start) (s .now + k) p (lo′ i) spent spent-sound (omega (arith, room .0)) (omega arith) (room .1) (omega (tests, h .sizes)) low (omega (tests, g)) (omega (tests, g))
         (λ (e : Effect). SoundFrom (withBound lo′ i (lo′ i)) (sent e)) (λ e q. sent-sound true LowThenUpper e q to-upper) (λ e q. sent-sound false Low e q to-low))
       where
         room : (0 < threadAt s (head s) .server .capacity) × (pendingAt s (head s) .count < p .«max_repl»)

@@ -20,7 +20,9 @@ use Rattle.sporadic.specs.declared.Effect.{Effect}
 use Rattle.account.specs.Rules.{countAfter, slotsAfter, applied, firstIsDue, returnFirst}
 use Rattle.sporadic.specs.Rules.{charged, limitEffect}
 use Rattle.sporadic.proofs.EffectLaws.{limit-keeps}
+use Rattle.entries.proofs.InsertLaws.{slot-for}
 use Rattle.account.proofs.EntryLaws.{slots-length, added-elim}
+use Rattle.account.proofs.RoomLaws.{return-room}
 use Rattle.account.proofs.ReturnLaws.{first-counted}
 use Rattle.account.specs.Sound.{sum}
 use Rattle.passing.specs.Time.{dueBy}
@@ -141,7 +143,7 @@ limits-counted s =
     (λ c. cond-elim P (eqb (level s) (t .parameters .priority) && eqb (t .server .capacity) 0) _ s
     (λ d. sum-most (s .counts) (head s) _
     (added-elim (λ (q : Pending). q .count ≤ getD (s .counts) (head s) 0 + 1) (limitEffect (s .now) false (t .parameters) (t .server)) (pendingAt s (head s))
-    (limit-keeps (s .now) (t .parameters) (t .server) false) (omega arith) (omega arith)))
+    (limit-keeps (s .now) (t .parameters) (t .server) false) (omega arith) (λ u. omega arith)))
     (λ d. omega arith)))
 
 module _ (s : State) (h : Mid s) (d : firstOf s .thread ≡ 32 → ⊥) (e : firstOf s .due ≤ s .now) where
@@ -188,15 +190,20 @@ module _ (s : State) (h : Mid s) (d : firstOf s .thread ≡ 32 → ⊥) (e : fir
 
   pub still-lowest : (j : ℕ) → j < firstOf s .thread → firstIsDue (s .now) (pendingAt backed j) ≡ false
   still-lowest j l =
+      let w = slot-for (back .due) (getD (s .counts) (firstOf s .thread) 0) (slotsAt (firstOf s .thread) (s .dues)) .within in
       ap (firstIsDue (s .now))
       (pending-other s (firstOf s .thread) first-small (threadAt s (firstOf s .thread)) (applied back (accountAt s (firstOf s .thread))) (h .sizes)
-      (eight (back .due) (s .dues) (omega (tests, h .sizes))) (eight (back .amount) (s .amounts) (omega (tests, h .sizes))) j (λ q. omega arith))
+      (eight _ (back .due) (s .dues) w (omega (tests, h .sizes))) (eight _ (back .amount) (s .amounts) w (omega (tests, h .sizes))) j (λ q. omega arith))
       ∙ first-lowest j l
     where
-      eight : (x : ℕ) (xs : List ℕ) → length xs ≡ 256 → length (slotsAfter (back .first) (back .amount) (getD (s .counts) (firstOf s .thread) 0) x (slotsAt (firstOf s .thread) xs)) ≡ 8
-      eight x xs l =
-          let n = row-length (firstOf s .thread) xs first-small l in
-          slots-length (back .first) (back .amount) (getD (s .counts) (firstOf s .thread) 0) x (slotsAt (firstOf s .thread) xs) (omega arith) ∙ n
+      eight : (k x : ℕ) (xs : List ℕ) → k ≤ getD (s .counts) (firstOf s .thread) 0 → length xs ≡ 256
+          → length (slotsAfter (back .first) (back .amount) k (getD (s .counts) (firstOf s .thread) 0) x (slotsAt (firstOf s .thread) xs)) ≡ 8
+      eight k x xs w l =
+          let i = firstOf s .thread in
+          let c = getD (s .counts) i 0 in
+          let n = row-length i xs first-small l in
+          let r = return-room (s .now) (threadAt s i .parameters) (threadAt s i .server) (isBlocked (threadAt s i)) c (getD (slotsAt i (s .amounts)) 0 0) in
+          slots-length (back .first) (back .amount) k c x (slotsAt i xs) (omega arith) (λ f a. (w, omega (arith, r .1 f a))) ∙ n
 
   -- so what is left comes back as before, by its own turn and by those after it
   pub backed-turn : replenishBelow (suc (firstOf s .thread)) backed ≡ replenishBelow (suc (firstOf s .thread)) s

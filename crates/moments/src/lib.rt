@@ -5,7 +5,7 @@ ghost use Prim.Native.Nat.{_+_, _*_, _<_, _≤_, _^_};
 ghost use lib.Dec.{eqb};
 ghost use lib.ListN.{length, replicate};
 ghost use Rattle.records.specs.Ranges.{mostThreads, lastTime, longestStep};
-ghost use Rattle.account.specs.Rules.{Room, slotsAfter};
+ghost use Rattle.account.specs.Rules.{Room, slotFor, slotsAfter};
 ghost use Rattle.sporadic.specs.Rules.{dueOf, limitEffect, returnEffect};
 ghost use Rattle.sporadic.specs.declared.Place.the-variants.{Stays, Low, LowThenUpper, Upper};
 ghost use Rattle.reports.specs.Tallies.{perThread, numbers};
@@ -119,19 +119,30 @@ fn effect_at(limited: bool, time: u64, t: Thread, count: u8, amount: u64) -> Eff
     sporadic::return_effect(p, v, count, amount, 0 < t.blocked, time)
 }
 
-// Thread i's dues or amounts after it: x is the due time or the amount of an entry that came.
-fn change_row(xs: &mut Slots, i: usize, first: bool, amount: u64, count: u8, x: u64)
-    requires { ⌜ (i < mostThreads) × (length (now xs) ≡ allSlots) × Room first amount count ⌝ }
-    ensures { λ _. ⌜ now (xs .exit) ≡ withSlots i (slotsAfter first amount count x (slotsAt i (now (xs .entry)))) (now (xs .entry)) ⌝ }
+// Thread i's dues and amounts after it; an entry that came, of this due time and amount, stands where its due time belongs.
+fn change_rows(
+    dues: &mut Slots,
+    amounts: &mut Slots,
+    i: usize,
+    first: bool,
+    amount: u64,
+    count: u8,
+    due: u64,
+)
+    requires { ⌜ (i < mostThreads) × (length (now dues) ≡ allSlots) × (length (now amounts) ≡ allSlots) × Room first amount count ⌝ }
+    ensures { λ _. ⌜ (now (dues .exit) ≡ withSlots i (slotsAfter first amount (slotFor due count (slotsAt i (now (dues .entry)))) count due (slotsAt i (now (dues .entry)))) (now (dues .entry)))
+        × (now (amounts .exit) ≡ withSlots i (slotsAfter first amount (slotFor due count (slotsAt i (now (dues .entry)))) count amount (slotsAt i (now (amounts .entry)))) (now (amounts .entry))) ⌝ }
 {
     if first {
-        rows::remove_first(xs, i);
+        rows::remove_first(dues, i);
+        rows::remove_first(amounts, i);
         return;
     }
     if amount == 0 {
         return;
     }
-    rows::write_slot(xs, i, count, x);
+    let n = wide(count);
+    rows::insert_entry(dues, amounts, i, n, due, amount);
 }
 
 // The state at the time t, with what is told of the way to it. Each turn charges the ticks up to the next moment and does one thing that happens at it: the
@@ -203,8 +214,7 @@ pub fn advance(
         let pending = account::count_after(first, amount, count);
         s.counts[j] = pending;
         waiting = due_search::word_after(waiting, j, pending);
-        change_row(dues, j, first, amount, count, due);
-        change_row(amounts, j, first, amount, count, amount);
+        change_rows(dues, amounts, j, first, amount, count, due);
         if limited {
             reports::tell_limit(told, j, back);
             let d = dues[at];

@@ -1,2 +1,3 @@
 -- Laws of the slots.
 pub mod RowLaws
+pub mod InsertLaws

@@ -1,3 +1,4 @@
 -- Laws of the rules.
 pub mod ChargeLaws
 pub mod EffectLaws
+pub mod CarryLaws

@@ -20,6 +20,11 @@ ghost use Rattle.sporadic.specs.Rules.{
 };
 use records::Parameters;
 
+mod carry; // carry.rt: a set that carries the server over
+
+pub use carry::cant_carry;
+pub use carry::carry_server;
+
 // Capacity, the charged time that is not yet scheduled (01's U), and the activation time.
 #[repr(C)]
 pub struct Server {

@@ -15,7 +15,7 @@ const LAP: u64 = 1 << 32;
 /// 02 E10 3: a reading that went back by so much at most is refused.
 const FURTHEST_BACK: u64 = 4_293_967_295;
 
-/// 01 Status 15, without 1: refusals in the order in which they are judged.
+/// 01 Status 15, without 1: refusals in the order in which they are judged; 15 comes after them.
 const ORDER: [u8; 8] = [9, 4, 5, 6, 3, 2, 7, 8];
 
 /// Which of these an event has a fault for, each judged alone; `step` is what its reading shows.
@@ -84,7 +84,10 @@ fn both(case: &Case, s: &mut State, t: &mut board::State, m: &Moved, seen: &mut 
     same_told(case, "a reading", input, &board::told_of(&told), &numbers);
     let found = faults(&before, &e, m.step());
     let first = found.iter().position(|fault| *fault);
-    let expected = first.map_or(status::ACCEPTED, |k| ORDER[k]);
+    // 15 hangs on the account at the event's time (02 E7 9): it is the model's to judge
+    let refused = a.status == status::NOT_CARRIED && e.kind == SET;
+    let otherwise = if refused { status::NOT_CARRIED } else { status::ACCEPTED };
+    let expected = first.map_or(otherwise, |k| ORDER[k]);
     if b.status != expected {
         let detail = format!("expected {expected} of {found:?} code {b:?}\n{}", input());
         case.differ("the status of a reading", detail);
@@ -431,6 +434,8 @@ struct Seen {
     laps: u64,
     /// Accepted without a wrap and with one, by kind.
     accepted: [[u64; KINDS]; 2],
+    /// Sets refused with 15, without a wrap and with one.
+    not_carried: [u64; 2],
     /// Refused with a wrap, in 01's order.
     wraps_refused: [u64; ORDER.len()],
     /// A fault that is the only one; one that comes before another.
@@ -470,6 +475,7 @@ impl Seen {
         self.answers.add(given);
         self.sound[found[0] as usize] += 1;
         match found.iter().position(|fault| *fault) {
+            None if given == status::NOT_CARRIED => self.not_carried[wrap] += 1,
             None => self.accepted[wrap][m.e.kind as usize] += 1,
             Some(first) => {
                 self.wraps_refused[first] += wrap as u64;
@@ -562,7 +568,11 @@ impl Seen {
             rows: vec![
                 answers(
                     "counter readings, by status",
-                    &[(&self.answers, &[0, 2, 3, 4, 5, 6, 7, 8, 9])],
+                    &[(&self.answers, &[0, 2, 3, 4, 5, 6, 7, 8, 9, 15])],
+                ),
+                row(
+                    "sets at a reading that are refused with 15, without a wrap and with one",
+                    &self.not_carried,
                 ),
                 row(
                     "readings accepted without a wrap and with one, by kind",

@@ -1,18 +1,25 @@
 //! What a run covered, counted from the model's states and listings. A row of the summary stands
 //! for situations of one sort: how many of them came up, and how often the rarest did.
 
-use crate::told;
+use crate::{carry, told};
 use model::{status, Answer, Event, State, Thread, Told, BLOCK, MAX_STEP, MAX_TIME, NOBODY};
 use model::{PENDING, RR, SET, SPORADIC, THREADS, WAKE, YIELD};
 use std::cmp::Ordering;
 
 const KINDS: usize = 5;
 const POLICIES: usize = 3;
-const STATUSES: usize = 15;
+const STATUSES: usize = 16;
 /// Charges are told apart up to this number of ticks.
 const TICKS: usize = 10;
 /// FIFO, RR, sporadic at its upper priority and at low.
 const STANDINGS: usize = 4;
+/// Where a sporadic thread stands: blocked, at its upper priority, at low without capacity, at low
+/// with all pending.
+pub const PLACES: usize = 4;
+pub const BLOCKED: usize = 0;
+pub const UPPER: usize = 1;
+pub const NO_CAPACITY: usize = 2;
+pub const ALL_PENDING: usize = 3;
 /// The most digits of a listed moment, which may lie after the last time.
 const MOMENT_DIGITS: usize = 16;
 /// The most digits of a listed capacity, run time or idle time.
@@ -64,8 +71,7 @@ pub struct Coverage {
     at_moment: [u64; KINDS],
     /// At a limit, at a block; due before now, now, later.
     scheduled: [[u64; 3]; 2],
-    /// Blocked, at its upper priority, at low without capacity, at low with all pending.
-    replenished: [u64; 4],
+    replenished: [u64; PLACES],
     pending: [u64; PENDING + 1],
     /// By block, yield, wake.
     moved: [[u64; STANDINGS]; 3],
@@ -79,6 +85,7 @@ pub struct Coverage {
     listed_events: Tally,
     listed_refusals: Tally,
     pub told: told::Seen,
+    pub carry: carry::Seen,
     /// What sorts with rows of their own covered.
     pub others: Vec<Group>,
 }
@@ -92,14 +99,24 @@ impl Coverage {
         for (k, (here, status)) in bounds(before, e).into_iter().enumerate() {
             self.bounds[k] += (here && a.status == status) as u64;
         }
-        if a.status != status::ACCEPTED {
-            return;
-        }
-        self.accepted[before.n as usize - 1][e.kind as usize] += 1;
         let mut s = *before;
-        let moments = self.passing(&mut s, e);
-        self.effect(&s, e, &moments, told);
-        self.reached(after);
+        match a.status {
+            status::ACCEPTED => {
+                self.accepted[before.n as usize - 1][e.kind as usize] += 1;
+                let moments = self.passing(&mut s, e);
+                self.effect(&s, e, &moments, told);
+                self.reached(after);
+                let t = &s.threads[e.thread as usize];
+                if e.kind == SET && model::carries(t, &e.parameters) {
+                    self.carry.set(before, &s, e, true, after);
+                }
+            }
+            status::NOT_CARRIED => {
+                model::pass(&mut s, e.time);
+                self.carry.set(before, &s, e, false, after);
+            }
+            _ => {}
+        }
     }
 
     /// Goes to the event's time from moment to moment; what they tell.
@@ -150,15 +167,10 @@ impl Coverage {
         let due = |t: &&Thread| t.pending > 0 && t.dues[0] == at;
         let dues = s.threads.iter().filter(due).count();
         for t in s.threads.iter().filter(due) {
-            let place = match (t.runnable(), model::upper(t), t.capacity) {
-                (false, ..) => 0,
-                (_, true, _) => 1,
-                (.., 0) => 2,
-                _ => 3,
-            };
-            self.replenished[place] += 1;
+            self.replenished[place(t)] += 1;
         }
         let ends = runner(s).filter(|t| ends(t, at - s.now));
+        self.carry.moment(s, at, ends);
         let rr = ends.is_some_and(|t| t.parameters.policy == RR);
         let sort = match (ends, dues) {
             (None, 1) => 0,
@@ -182,6 +194,9 @@ impl Coverage {
             Ordering::Greater => 2,
         };
         self.scheduled[cause][place] += 1;
+        if place == 2 {
+            self.carry.entry(cause, t);
+        }
     }
 
     /// What an event does at its time; what was told of the moments before, and of all.
@@ -240,6 +255,16 @@ fn runner(s: &State) -> Option<&Thread> {
     match model::running(s) {
         NOBODY => None,
         i => Some(&s.threads[i as usize]),
+    }
+}
+
+/// Of a sporadic thread.
+pub fn place(t: &Thread) -> usize {
+    match (t.runnable(), model::upper(t), t.capacity) {
+        (false, ..) => BLOCKED,
+        (_, true, _) => UPPER,
+        (.., 0) => NO_CAPACITY,
+        _ => ALL_PENDING,
     }
 }
 
@@ -392,7 +417,7 @@ impl Coverage {
                 (block, &[1, 2, 3, 5, 6, 7, 9]),
                 (yield_, &[1, 2, 3, 5, 6, 7, 9]),
                 (wake, &[1, 2, 3, 5, 6, 8, 9]),
-                (set, &[1, 2, 3, 5, 6, 9]),
+                (set, &[1, 2, 3, 5, 6, 9, 15]),
                 (other, &[4, 9]),
             ],
         )
@@ -419,7 +444,7 @@ impl Coverage {
             answers(
                 "listed statuses, and refused listings by status",
                 &[
-                    (&self.listed_events, &[0, 1, 2, 3, 4, 5, 6, 7, 8]),
+                    (&self.listed_events, &[0, 1, 2, 3, 4, 5, 6, 7, 8, 15]),
                     (&self.listed_refusals, &[3, 6, 10, 11, 13]),
                 ],
             ),

@@ -45,7 +45,7 @@ pub fn both(
 }
 
 /// One opening by both.
-fn both_open(
+pub fn both_open(
     case: &Case,
     start: u64,
     n: u32,

@@ -1,12 +1,14 @@
 //! The budget seen from the history (02 E6), on the code alone. From a sporadic thread's opening or
-//! last accepted set on, the ticks run at its upper priority are budget - capacity + the amounts
-//! returned, which are those told (02 E3); and each of these comes back no earlier than a period
-//! after the activation time under which it was run.
+//! last accepted set that doesn't carry over (02 E7 8) on, the ticks run at its upper priority are
+//! budget - capacity + the amounts returned, which are those told (02 E3), with the budget now in force;
+//! and each of these comes back no earlier than a period, the one in force when it was scheduled, after
+//! the activation time under which it was run.
 //!
 //! The ticks are seen from outside: time goes on by clock readings, and before each the state says
 //! who heads the highest list, whether that is a sporadic thread's upper one, and since when it is
 //! active. A history keeps them, by this time, until they are told to be back.
 
+use crate::carry;
 use crate::case::{cases, Case};
 use crate::coverage::{row, Coverage, Group, Tally};
 use crate::events::table;
@@ -14,7 +16,6 @@ use crate::told::{add, lent, same_told};
 use differential as board;
 use model::random::Random;
 use model::{status, Counts, Event, Parameters, BLOCK, PRIORITIES, SET, SPORADIC, THREADS};
-use std::collections::VecDeque;
 
 /// Ticks run at the upper priority under one activation time.
 #[derive(Debug)]
@@ -42,41 +43,58 @@ enum Cause {
 struct Entry {
     runs: Vec<Run>,
     at: u64,
+    /// The parameters in force when it was scheduled.
+    parameters: Parameters,
     cause: Cause,
     preempted: bool,
     /// Not the first block within a period.
     again: bool,
+    /// How many sets had carried the account over.
+    carried: u64,
+    /// It was put before an older one.
+    before: bool,
 }
 
-/// What is known of a sporadic thread from an opening or a set on.
+impl Entry {
+    /// A period after the last of its runs became active.
+    fn due(&self) -> u64 {
+        let activation = self.runs.iter().map(|r| r.activation).max();
+        activation.unwrap_or(0) + self.parameters.period
+    }
+}
+
+/// What is known of a sporadic thread from an opening or a set that doesn't carry over on.
 #[derive(Debug)]
 struct History {
     from: From,
-    budget: u64,
-    period: u64,
+    /// Those now in force.
+    parameters: Parameters,
     ran: u64,
     returned: u64,
     /// Run since the last entry.
     charged: Vec<Run>,
     preempted: bool,
-    entries: VecDeque<Entry>,
+    /// In due order, after those of equal due.
+    entries: Vec<Entry>,
     last_block: Option<u64>,
-    refused_set: bool,
+    carried: u64,
+    /// A set refused after some ticks: for any reason; with 15.
+    refused_set: [bool; 2],
 }
 
 impl History {
     fn new(from: From, p: &Parameters) -> Option<History> {
         (p.policy == SPORADIC).then_some(History {
             from,
-            budget: p.budget,
-            period: p.period,
+            parameters: *p,
             ran: 0,
             returned: 0,
             charged: Vec::new(),
             preempted: false,
-            entries: VecDeque::new(),
+            entries: Vec::new(),
             last_block: None,
-            refused_set: false,
+            carried: 0,
+            refused_set: [false; 2],
         })
     }
 
@@ -97,30 +115,48 @@ impl History {
             return;
         }
         if let Cause::Block = cause {
-            again = self.last_block.is_some_and(|last| at - last < self.period);
+            let within = |last| at - last < self.parameters.period;
+            again = self.last_block.is_some_and(within);
             self.last_block = Some(at);
         }
-        self.entries.push_back(Entry {
+        let mut entry = Entry {
             runs,
             at,
+            parameters: self.parameters,
             cause,
             preempted,
             again,
-        });
+            carried: self.carried,
+            before: false,
+        };
+        let later = |other: &Entry| other.due() > entry.due();
+        let place = self.entries.iter().position(later);
+        entry.before = place.is_some();
+        self.entries
+            .insert(place.unwrap_or(self.entries.len()), entry);
     }
 
-    /// So many entries come back, with these amounts together: the oldest ones, and each run under
-    /// an activation time that lies a period before.
+    /// The account is carried over: what was run and what is pending stays.
+    fn carry(&mut self, p: &Parameters) {
+        self.parameters = *p;
+        self.carried += 1;
+    }
+
+    /// So many entries come back, with these amounts together: those that are due first, and each run
+    /// under an activation time that lies its period before.
     fn give_back(&mut self, at: u64, told: &Counts, seen: &mut Seen) -> Result<(), &'static str> {
         let mut amounts = 0;
         for _ in 0..told.replenishments {
-            let entry = self.entries.pop_front();
-            let entry = entry.ok_or("more came back than was scheduled")?;
-            if entry.runs.iter().any(|r| r.activation + self.period > at) {
+            if self.entries.is_empty() {
+                return Err("more came back than was scheduled");
+            }
+            let entry = self.entries.remove(0);
+            let period = entry.parameters.period;
+            if entry.runs.iter().any(|r| r.activation + period > at) {
                 return Err("an amount came back too early");
             }
             amounts += entry.runs.iter().map(|r| r.ticks).sum::<u64>();
-            seen.returned(self, &entry, at);
+            seen.returned(self, &entry, at, told.replenishments > 1);
         }
         self.returned += amounts;
         if amounts != told.amounts {
@@ -131,7 +167,8 @@ impl History {
 
     /// Ticks run at the upper priority = budget - capacity + amounts returned.
     fn balanced(&self, capacity: u64) -> bool {
-        self.ran as u128 + capacity as u128 == self.budget as u128 + self.returned as u128
+        let budget = self.parameters.budget;
+        self.ran as u128 + capacity as u128 == budget as u128 + self.returned as u128
     }
 }
 
@@ -143,6 +180,12 @@ fn runner(t: &board::State) -> Option<(usize, u8)> {
     let mut down = (1..=PRIORITIES).rev();
     let highest = down.find(|level| list(level)[0] > 0)?;
     Some((list(&highest)[1] as usize, highest as u8))
+}
+
+/// 02 E7 2: a set to sporadic of a thread already sporadic carries its account over.
+fn carries(t: &board::State, e: &Event) -> bool {
+    let before = &t.core.threads[e.thread as usize].parameters;
+    before.policy == SPORADIC && e.parameters.policy == SPORADIC
 }
 
 /// 01 State 9: whether a sporadic thread's assigned priority is its upper one.
@@ -196,6 +239,7 @@ impl Sequence<'_> {
     /// One event that has to be accepted, at most one moment after the last; what it tells.
     fn call(&mut self, e: &Event) -> board::Told {
         let runs = runner(&self.state);
+        let carries = e.kind == SET && carries(&self.state, e);
         let mut told = lent(e);
         let reply = board::event(&mut self.state, &mut told, (*e).into());
         self.next = reply.next;
@@ -207,25 +251,30 @@ impl Sequence<'_> {
         }
         let counts = board::counts_of(&told);
         for (i, n) in counts.iter().enumerate() {
-            // what a set makes of its thread is no part of its history until then
             if e.kind == SET && e.thread as usize == i {
-                self.begin_anew(e, n);
-            } else {
-                let blocks = e.kind == BLOCK && runs.is_some_and(|(k, _)| k == i);
-                self.account(e, i, n, blocks);
+                self.set(e, n, carries);
             }
+            let blocks = e.kind == BLOCK && runs.is_some_and(|(k, _)| k == i);
+            self.account(e, i, n, blocks);
         }
         told
     }
 
-    fn begin_anew(&mut self, e: &Event, told: &Counts) {
+    /// A set that doesn't carry over begins the history anew; one that does changes the parameters
+    /// now in force, and begins none.
+    fn set(&mut self, e: &Event, told: &Counts, carries: bool) {
         if *told != Counts::default() {
             self.differ("a set tells what it does", format!("{told:?} of {e:?}"));
         }
-        self.histories[e.thread as usize] = History::new(From::Set, &e.parameters);
+        let history = &mut self.histories[e.thread as usize];
+        match history {
+            Some(h) if carries => h.carry(&e.parameters),
+            None if carries => {}
+            _ => *history = History::new(From::Set, &e.parameters),
+        }
     }
 
-    /// What one event tells of a thread that it doesn't set.
+    /// What one event tells of a thread.
     fn account(&mut self, e: &Event, i: usize, told: &Counts, blocks: bool) {
         let Some(mut h) = self.histories[i].take() else {
             return;
@@ -256,7 +305,7 @@ impl Sequence<'_> {
         let reply = board::event(&mut alone, &mut told, (*e).into());
         if reply.status != status::ACCEPTED {
             self.state = alone;
-            self.refused(e, &told);
+            self.refused(e, reply.status, &told);
             return reply.status;
         }
         let mut sums = board::NOTHING_TOLD;
@@ -275,8 +324,11 @@ impl Sequence<'_> {
         status::ACCEPTED
     }
 
-    /// A refused event tells nothing and begins no history.
-    fn refused(&mut self, e: &Event, told: &board::Told) {
+    /// A refused event tells nothing and begins no history; no event leaves a state that isn't sound.
+    fn refused(&mut self, e: &Event, status: u8, told: &board::Told) {
+        if status == status::UNSOUND {
+            self.differ("a state that was left is not sound", format!("{e:?}"));
+        }
         let input = || format!("{e:?}");
         let nothing = &board::NOTHING_TOLD;
         same_told(self.case, "a refused event", input, nothing, told);
@@ -286,7 +338,8 @@ impl Sequence<'_> {
         if e.kind == SET {
             let history = self.histories.get_mut(e.thread as usize);
             if let Some(h) = history.and_then(Option::as_mut) {
-                h.refused_set |= h.ran > 0;
+                h.refused_set[0] |= h.ran > 0;
+                h.refused_set[1] |= h.ran > 0 && status == status::NOT_CARRIED;
             }
         }
     }
@@ -313,16 +366,26 @@ fn reading(time: u64) -> Event {
     }
 }
 
-/// A state to begin with, and the histories that begin there: a few threads, or, now and then, a
-/// made-up state, where only sets begin any.
-fn begun(case: &Case, r: &mut Random) -> (board::State, [Option<History>; THREADS]) {
+/// What a sequence begins with: a state, the histories that begin there, and the thread whose account
+/// is carried over again and again.
+type Begun = (board::State, [Option<History>; THREADS], Option<usize>);
+
+/// A few threads, now and then one of them being such a thread; or a made-up state, where only sets
+/// begin any history.
+fn begun(case: &Case, r: &mut Random) -> Begun {
     let mut histories = [const { None }; THREADS];
-    if r.one_in(6) {
-        return (board::State::from(&r.sound_state()), histories);
-    }
-    let aim = r.aim();
-    let n = r.between(1, 6) as u32;
-    let table = table(r, n, aim);
+    let (n, table, one) = match r.below(6) {
+        0 => return (board::State::from(&r.sound_state()), histories, None),
+        1 => {
+            let (n, table, one) = carry::opening(r);
+            (n, table, Some(one))
+        }
+        _ => {
+            let aim = r.aim();
+            let n = r.between(1, 6) as u32;
+            (n, table(r, n, aim), None)
+        }
+    };
     let opened = board::open(r.start(), n, board::table_of(&table));
     if opened.status != status::ACCEPTED {
         case.differ("an opening", format!("{} of {table:?}", opened.status));
@@ -330,12 +393,12 @@ fn begun(case: &Case, r: &mut Random) -> (board::State, [Option<History>; THREAD
     for (history, p) in histories.iter_mut().zip(&table[..n as usize]) {
         *history = History::new(From::Opening, p);
     }
-    (opened.state, histories)
+    (opened.state, histories, one)
 }
 
 fn sequence(case: &Case, tally: &mut Tally, seen: &mut Seen) -> u64 {
     let r = &mut case.random();
-    let (state, histories) = begun(case, r);
+    let (state, histories, one) = begun(case, r);
     let mut sequence = Sequence {
         case,
         state,
@@ -351,7 +414,10 @@ fn sequence(case: &Case, tally: &mut Tally, seen: &mut Seen) -> u64 {
             aim = r.aim();
         }
         let s = model::State::from(&sequence.state);
-        let mut e = r.aimed_event(&s, aim, 6);
+        let mut e = match one {
+            Some(i) => carry::event(r, &s, i),
+            None => r.aimed_event(&s, aim, 6),
+        };
         if e.time > s.now && e.time - s.now <= model::MAX_STEP {
             e.time = e.time.min(s.now + FAR);
         }
@@ -387,21 +453,34 @@ struct Seen {
     /// pending; with a refused set before.
     histories: [u64; 4],
     from: [u64; 2],
+    /// Scheduled before a set that carried the account over; under a longer period than now in force,
+    /// under a shorter one; under a larger budget, under a smaller one; put before an older entry;
+    /// back together with another; with a set refused with 15 before.
+    carried: [u64; 8],
 }
 
 impl Seen {
-    fn returned(&mut self, h: &History, entry: &Entry, at: u64) {
+    fn returned(&mut self, h: &History, entry: &Entry, at: u64, together: bool) {
         let at_once = entry.at == at;
         self.causes[entry.cause as usize][at_once as usize] += 1;
-        let activation = entry.runs.iter().map(|r| r.activation).max();
-        let exact = activation.is_some_and(|a| a + h.period == at);
-        self.ages[!exact as usize] += 1;
+        self.ages[(entry.due() != at) as usize] += 1;
         let others = !h.entries.is_empty();
-        let here = [entry.preempted, entry.again, others, h.refused_set];
-        for (count, here) in self.histories.iter_mut().zip(here) {
-            *count += here as u64;
-        }
+        let [refused, not_carried] = h.refused_set;
+        let here = [entry.preempted, entry.again, others, refused];
+        count(&mut self.histories, here);
         self.from[h.from as usize] += 1;
+        let (then, now) = (&entry.parameters, &h.parameters);
+        let here = [
+            entry.carried < h.carried,
+            then.period > now.period,
+            then.period < now.period,
+            then.budget > now.budget,
+            then.budget < now.budget,
+            entry.before,
+            together,
+            not_carried,
+        ];
+        count(&mut self.carried, here);
     }
 
     fn group(&self) -> Group {
@@ -421,7 +500,17 @@ impl Seen {
                     &self.histories,
                 ),
                 row("returned since an opening, since a set", &self.from),
+                row(
+                    "returned: carried since; period, budget less or more now; before an older; several; 15",
+                    &self.carried,
+                ),
             ],
         }
+    }
+}
+
+fn count<const N: usize>(seen: &mut [u64; N], here: [bool; N]) {
+    for (count, here) in seen.iter_mut().zip(here) {
+        *count += here as u64;
     }
 }

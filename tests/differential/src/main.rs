@@ -3,6 +3,7 @@
 //! case alone, and ends the run with status 1. A summary says what was covered.
 
 mod blocked;
+mod carry;
 mod case;
 mod checks;
 mod counter;
@@ -61,6 +62,8 @@ const SORTS: &[Sort] = &[
     sort("plots", 100_000, shares::shares),
     // the lines of shares at the end of a replay
     sort("lines", 4_000, share_lines::share_lines),
+    // events of one account, carried over again and again
+    sort("accounts", 120_000, carry::accounts),
 ];
 
 fn main() {

@@ -95,7 +95,7 @@ impl Seen {
             rows: vec![
                 answers(
                     "replays, by the last status or the refusal",
-                    &[(&self.replays, &[0, 1, 2, 3, 4, 5, 6, 7, 8, 10, 11, 13])],
+                    &[(&self.replays, &[0, 1, 2, 3, 4, 5, 6, 7, 8, 10, 11, 13, 15])],
                 ),
                 row(
                     "replays of none, some and all events, and past them",

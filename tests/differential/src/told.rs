@@ -115,7 +115,8 @@ pub fn stored(case: &Case, seen: &mut Seen) {
     }
 }
 
-fn counts(file: &[u8]) -> String {
+/// A trace's numbers as text.
+pub fn counts(file: &[u8]) -> String {
     let trace = match model::read(file) {
         Ok(trace) => trace,
         Err(status) => return format!("refused {status}\n"),

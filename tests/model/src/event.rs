@@ -104,7 +104,8 @@ pub fn event_told(s: &mut State, e: &Event) -> (Answer, Told) {
 }
 
 /// The state after an event and what happened, or its refusal. 01 Status 15: 4, 5,
-/// 6, 3, 1, 2; then time passes, and 7 and 8 are judged at the event's time.
+/// 6, 3, 1, 2; then time passes, and 7, 8 and after them 15 (02 E7 9) are judged at
+/// the event's time.
 fn after(given: &State, e: &Event) -> Result<(State, Told), u8> {
     if e.kind > SET {
         return Err(status::KIND);
@@ -134,6 +135,12 @@ fn after(given: &State, e: &Event) -> Result<(State, Told), u8> {
     match e.kind {
         BLOCK | YIELD if runs == NOBODY => return Err(status::NOTHING_RUNS),
         WAKE if s.threads[i].runnable() => return Err(status::NOT_BLOCKED),
+        SET if carries(&s.threads[i], &e.parameters) => {
+            if !can_carry(&s.threads[i], &e.parameters) {
+                return Err(status::NOT_CARRIED);
+            }
+            carry(&mut s, i, &e.parameters);
+        }
         BLOCK => block(&mut s, runs as usize, &mut told),
         YIELD => yield_(&mut s, runs as usize),
         WAKE => wake(&mut s, i),
@@ -176,8 +183,48 @@ fn wake(s: &mut State, i: usize) {
     refill(t);
 }
 
-/// 01 Events 6: a runnable thread becomes the tail of its new list, a blocked one
-/// stays blocked.
+/// 02 E7 2: a set to sporadic of a thread already sporadic carries its account over.
+pub fn carries(t: &Thread, p: &Parameters) -> bool {
+    p.policy == SPORADIC && t.parameters.policy == SPORADIC
+}
+
+/// 02 E7 9: not if C < B and B - C is at least the capacity, or if the new max_repl is
+/// below the pending count or equals it for a runnable thread at its upper priority.
+fn can_carry(t: &Thread, p: &Parameters) -> bool {
+    let (b, c) = (t.parameters.budget, p.budget);
+    let too_little = c < b && b - c >= t.capacity;
+    let too_many = p.max_repl < t.pending;
+    let no_longer_upper = p.max_repl == t.pending && t.runnable() && upper(t);
+    !too_little && !too_many && !no_longer_upper
+}
+
+/// 02 E7 2 to 6: capacity grows by C - B or shrinks by B - C; U and pending entries
+/// stay. The assigned priority follows the usual rule, and a runnable thread that goes
+/// from low to upper gets activation time now, any other keeps its own. 01 Events 6: a
+/// runnable thread becomes the tail of its new list, a blocked one stays blocked.
+fn carry(s: &mut State, i: usize, p: &Parameters) {
+    let t = &mut s.threads[i];
+    let was_low = !upper(t);
+    let (b, c) = (t.parameters.budget, p.budget);
+    if c >= b {
+        t.capacity += c - b;
+    } else {
+        t.capacity -= b - c;
+    }
+    t.parameters = Parameters { flag: 0, ..*p };
+    if !t.runnable() {
+        return;
+    }
+    if was_low && upper(t) {
+        t.activation = s.now;
+    }
+    let own = assigned(t);
+    leave(s, i);
+    join(s, i, own);
+}
+
+/// 01 Events 6, and 02 E7 7: any other set stays as it was. A runnable thread becomes
+/// the tail of its new list, a blocked one stays blocked.
 fn set(s: &mut State, i: usize, p: &Parameters) {
     if s.threads[i].runnable() {
         leave(s, i);
@@ -294,7 +341,8 @@ fn limit(s: &mut State, i: usize, told: &mut Told) {
     }
 }
 
-/// 01 Passing 8: a thread's replenishments that are due now.
+/// 01 Passing 8: a thread's replenishments that are due now; since 02 E7 3 there may
+/// be several, which come back in their order.
 fn replenish_due(s: &mut State, i: usize, told: &mut Told) {
     while s.threads[i].pending > 0 && s.threads[i].dues[0] == s.now {
         let t = &mut s.threads[i];
@@ -312,7 +360,7 @@ fn replenish_due(s: &mut State, i: usize, told: &mut Told) {
 
 /// 01 Passing 9 to 11: amount = U, due = activation time + period, U becomes 0.
 /// Amount 0 schedules nothing. Due at or before now: carried out at once and
-/// never pending.
+/// never pending. 02 E7 3: pending ones stand in due order, after those of equal due.
 fn schedule(s: &mut State, i: usize, told: &mut Told) {
     let t = &mut s.threads[i];
     let amount = t.used;
@@ -325,8 +373,13 @@ fn schedule(s: &mut State, i: usize, told: &mut Told) {
         let was_low = !upper(t);
         replenish(s, i, amount, was_low, told);
     } else {
-        t.dues[t.pending as usize] = due;
-        t.amounts[t.pending as usize] = amount;
+        let count = t.pending as usize;
+        let later = t.dues[..count].iter().position(|&other| other > due);
+        let place = later.unwrap_or(count);
+        t.dues[place..=count].rotate_right(1);
+        t.amounts[place..=count].rotate_right(1);
+        t.dues[place] = due;
+        t.amounts[place] = amount;
         t.pending += 1;
     }
 }

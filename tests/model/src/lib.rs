@@ -26,7 +26,7 @@ pub use check::{verdict, Verdict};
 pub use counter::{counter_event, counter_time, elapsed, CounterEvent};
 pub use counts::{counts, counts_text, Counts, Told, NOTHING_TOLD};
 pub use decimal::{decimal, significant, SIGNIFICANT};
-pub use event::{event, event_told, next_moment, open, pass, running, Answer, Event};
+pub use event::{carries, event, event_told, next_moment, open, pass, running, Answer, Event};
 pub use search::{next_due, Dues};
 pub use shares::{share, share_listing, summary, Summary};
 pub use state::{assigned, in_range, sound, upper, List, Parameters, State, Thread};
@@ -41,6 +41,9 @@ pub const MAX_TICKS: u64 = 1_000_000_000;
 pub const MAX_TIME: u64 = 1_000_000_000_000_000;
 pub const MAX_STEP: u64 = 1_000_000;
 pub const MAX_EVENTS: usize = 1_500;
+
+/// 02 E7 4: the most ticks by which a due lies after now.
+pub const FARTHEST_DUE: u64 = 1_000_000_000;
 
 // 01, Trace file: the policies' numbers.
 pub const FIFO: u8 = 0;
@@ -75,4 +78,6 @@ pub mod status {
     pub const FILLER: u8 = 13;
     /// 02 E1
     pub const TEXT: u8 = 14;
+    /// 02 E7
+    pub const NOT_CARRIED: u8 = 15;
 }

@@ -2,10 +2,10 @@
 //! tables, events and made-up states, with numbers kept small and instants
 //! often shared so that limits, quanta and dues collide.
 
-use crate::event::{next_moment, running, Event};
+use crate::event::{next_moment, pass, running, Event};
 use crate::state::{assigned, Parameters, State, Thread};
-use crate::{BLOCK, CLOCK, FIFO, MAX_STEP, MAX_TICKS, MAX_TIME, NOBODY, PENDING, RR, SET};
-use crate::{SPORADIC, THREADS, WAKE, YIELD};
+use crate::{BLOCK, CLOCK, FARTHEST_DUE, FIFO, MAX_STEP, MAX_TICKS, MAX_TIME, NOBODY, PENDING};
+use crate::{RR, SET, SPORADIC, THREADS, WAKE, YIELD};
 
 /// What the events of a case aim at.
 #[derive(Clone, Copy, Debug, PartialEq, Eq)]
@@ -18,6 +18,8 @@ pub enum Aim {
     Pending,
     /// Times at which something happens.
     Instants,
+    /// Sets of sporadic threads, so that accounts are carried over with what they hold.
+    Carry,
 }
 
 /// Splitmix64.
@@ -144,10 +146,11 @@ impl Random {
 
     /// An aim; idle more often, since many threads are rarely all blocked.
     pub fn aim(&mut self) -> Aim {
-        match self.below(5) {
+        match self.below(6) {
             0 => Aim::Any,
             1 => Aim::Pending,
             2 => Aim::Instants,
+            3 => Aim::Carry,
             _ => Aim::Idle,
         }
     }
@@ -167,19 +170,90 @@ impl Random {
         };
         match e.kind {
             WAKE => e.thread = self.sleeper(s, aim),
-            SET => {
-                e.thread = self.below(in_use(s).len() as u64) as u8;
-                e.parameters = self.parameters();
-                if self.one_in(4) {
-                    e.parameters = s.threads[e.thread as usize].parameters;
-                }
-            }
+            SET => self.set(s, aim, &mut e),
             _ => {}
         }
         if self.below(100) < damage {
             self.damage_event(&mut e, s);
         }
         e
+    }
+
+    /// A set: to any parameters, to those that the thread has, or such as an account is
+    /// carried over with.
+    fn set(&mut self, s: &State, aim: Aim, e: &mut Event) {
+        let threads = in_use(s);
+        let any = self.below(threads.len() as u64) as usize;
+        let sporadic = |&i: &usize| {
+            let t = threads.get(i);
+            t.is_some_and(|t| t.parameters.policy == SPORADIC)
+        };
+        let mut after = (any..threads.len()).chain(0..any).filter(sporadic);
+        let found = match self.below(3) {
+            _ if aim != Aim::Carry => None,
+            0 => after.next(),
+            1 => after.max_by_key(|&i| threads[i].pending),
+            _ => Some(running(s) as usize).filter(sporadic),
+        };
+        let i = found.unwrap_or(any);
+        e.thread = i as u8;
+        e.parameters = match self.below(if aim == Aim::Carry { 12 } else { 4 }) {
+            0 => threads[i].parameters,
+            1 => self.parameters(),
+            _ if sporadic(&i) => self.carrying(s, i, e.time),
+            _ => self.parameters(),
+        };
+    }
+
+    /// Parameters for a thread that is sporadic and stays so, one or two of them changed:
+    /// at the bounds of what is carried over at that time, or such that the next entry
+    /// stands before others or beside one.
+    pub fn carrying(&mut self, s: &State, i: usize, time: u64) -> Parameters {
+        let mut s = *s;
+        let mut p = s.threads[i].parameters;
+        if !crate::sound(&s) || time > s.now + MAX_STEP {
+            return p;
+        }
+        pass(&mut s, time);
+        let t = s.threads[i];
+        for _ in 0..self.between(1, 2) {
+            // entries that are far away would fill the account for good
+            let ticks = if self.one_in(20) {
+                self.ticks()
+            } else {
+                self.between(1, 40)
+            };
+            match self.below(14) {
+                0..=2 => p.budget += ticks,
+                3 => p.budget = p.budget.saturating_sub(t.capacity.saturating_sub(1)),
+                4 => p.budget = p.budget.saturating_sub(t.capacity),
+                5 => p.budget = self.between(1, p.budget.max(1)),
+                6 => p.max_repl = (t.pending + self.below(3) as u8).saturating_sub(1),
+                7 | 8 => p.max_repl = self.between(1, PENDING as u64) as u8,
+                9..=11 if t.pending > 0 => p.period = self.period_to_a_due(&s, &t),
+                9..=12 => p.period = p.budget + 2 * ticks,
+                _ => {
+                    p.priority = self.between(2, 32) as u8;
+                    p.low = self.between(1, p.priority as u64 - 1) as u8;
+                }
+            }
+        }
+        p.max_repl = p.max_repl.clamp(1, PENDING as u8);
+        p.budget = p.budget.clamp(1, MAX_TICKS);
+        p.period = p.period.clamp(p.budget, MAX_TICKS);
+        p
+    }
+
+    /// A period after which what the thread runs comes back together with an entry of its
+    /// own or of another thread, or a tick before or after it.
+    fn period_to_a_due(&mut self, s: &State, t: &Thread) -> u64 {
+        let own = t.dues[self.below(t.pending as u64) as usize];
+        let other = s.threads[self.below(in_use(s).len() as u64) as usize].dues[0];
+        let due = match self.one_in(4) {
+            true if other > s.now => other,
+            _ => own,
+        };
+        due + self.pick(&[0, 1, 1, 1, 2]) - (t.activation + 1)
     }
 
     /// A time from now on; now and then one that is too far.
@@ -206,6 +280,7 @@ impl Random {
             Aim::Idle => self.pick(&[now, next, near, near, near, near, wide]),
             Aim::Pending => self.pick(&[now, short, short, short]),
             Aim::Instants => self.pick(&[now, now, next, next, next, beside, back]),
+            Aim::Carry => self.pick(&[now, short, short, short, near, next, beside, back, wide]),
         };
         if time > MAX_TIME && !self.one_in(8) {
             return MAX_TIME;
@@ -219,6 +294,7 @@ impl Random {
             Aim::Any | Aim::Instants => self.pick(&[0, 0, 1, 1, 2, 3, 3, 3, 4]),
             Aim::Idle => self.pick(&[0, 0, 1, 1, 2, 3, 4]),
             Aim::Pending => self.pick(&[0, 1, 1, 1, 2, 3, 3, 3]),
+            Aim::Carry => self.pick(&[0, 1, 1, 1, 2, 3, 3, 3, 4, 4]),
         } as u8;
         let blocked = in_use(s).iter().any(|t| !t.runnable());
         match kind {
@@ -236,7 +312,7 @@ impl Random {
         let first = self.below(n as u64) as usize;
         let mut after = (first..n).chain(0..first);
         let blocked = |&i: &usize| !s.threads[i].runnable();
-        let found = if aim == Aim::Pending {
+        let found = if aim == Aim::Pending || aim == Aim::Carry {
             after.filter(blocked).max_by_key(|&i| s.threads[i].pending)
         } else {
             after.find(blocked)
@@ -353,32 +429,23 @@ impl Random {
         };
         let activation = now - back.min(now - start);
         let low = !blocked && self.one_in(3);
-        let (most, last) = if blocked || low {
-            (p.max_repl as u64, now + p.period - 1)
+        let most = if blocked || low {
+            (p.max_repl as u64).min(p.budget)
         } else {
-            (p.max_repl as u64 - 1, activation + p.period - 1)
+            (p.max_repl as u64).min(p.budget) - 1
         };
-        let most = most.min(if blocked || low {
-            p.budget
-        } else {
-            p.budget - 1
-        });
         let want = if low && self.one_in(2) {
             most
         } else {
             self.below(most + 1)
         };
+        let last = now + self.pick(&[p.period, p.period, FARTHEST_DUE]);
         let mut dues: Vec<u64> = Vec::new();
-        for _ in 0..4 * want {
-            if dues.len() as u64 == want || last <= now {
-                break;
-            }
+        for _ in 0..want {
             let any = self.between(now + 1, last);
             let near = self.between(now + 1, last.min(now + 20));
-            let due = self.pick(&[any, near, near, last]);
-            if !dues.contains(&due) {
-                dues.push(due);
-            }
+            let again = *dues.last().unwrap_or(&near);
+            dues.push(self.pick(&[any, near, near, last, again]));
         }
         dues.sort();
         let count = dues.len() as u64;
@@ -473,7 +540,7 @@ impl Random {
         let p = t.parameters;
         let last = t.pending.clamp(1, PENDING as u8) as usize - 1;
         let since = self.pick(&[now, t.activation]);
-        match self.below(7) {
+        match self.below(8) {
             _ if p.policy == RR => t.quantum = self.pick(&[0, p.budget, p.budget.wrapping_add(1)]),
             0 | 1 => {
                 let from = match t.capacity {
@@ -488,8 +555,9 @@ impl Random {
                 t.amounts[last] = 0;
             }
             3 => t.dues[0] = now.wrapping_add(self.below(2)),
-            4 => t.dues[0] = t.dues[1],
-            5 => t.dues[last] = since.wrapping_add(p.period).wrapping_sub(self.below(2)),
+            4 => t.dues[0] = t.dues[1].wrapping_add(self.below(2)),
+            5 => t.dues[last] = now.wrapping_add(FARTHEST_DUE + self.below(2)),
+            6 => t.dues[last] = since.wrapping_add(p.period).wrapping_add(self.below(2)),
             _ => {
                 t.activation = self.pick(&[start.wrapping_sub(1), start, now, now.wrapping_add(1)])
             }

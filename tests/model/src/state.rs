@@ -1,6 +1,6 @@
 //! The state and when it is sound (01, State).
 
-use crate::{FIFO, MAX_TICKS, MAX_TIME, PENDING, PRIORITIES, RR, SPORADIC, THREADS};
+use crate::{FARTHEST_DUE, FIFO, MAX_TICKS, MAX_TIME, PENDING, PRIORITIES, RR, SPORADIC, THREADS};
 
 /// A thread's parameters, as in the file's thread record. `budget` is the
 /// quantum for RR. `flag` is the start flag; it is 0 inside a state.
@@ -114,11 +114,11 @@ pub fn sound(s: &State) -> bool {
         && threads.iter().all(|t| t.blocked <= 1)
         && stands(s, threads)
         && word_agrees(s)
-        // State 10 to 14
+        // State 10 to 13
         && threads
             .iter()
             .filter(|t| t.parameters.policy == SPORADIC)
-            .all(|t| sums(t) && used(s, t) && dues(s, t) && activation(s, t) && upper_dues(t))
+            .all(|t| sums(t) && used(s, t) && dues(s, t) && activation(s, t))
         // State 15
         && threads
             .iter()
@@ -180,28 +180,22 @@ fn used(s: &State, t: &Thread) -> bool {
     (!must_be_zero || t.used == 0) && t.used as u128 + t.activation as u128 <= s.now as u128
 }
 
-/// 01 State 12: pending count <= max_repl; amounts >= 1; dues strictly rise, each
-/// after now and at most now + period - 1.
+/// 01 State 12: pending count <= max_repl; amounts >= 1. 02 E7 4, in place of what
+/// State 12 and 14 ask of dues: they don't fall and lie after now by at most
+/// 1,000,000,000 ticks.
 fn dues(s: &State, t: &Thread) -> bool {
-    let rise = pending(t)
+    let fall = pending(t)
         .zip(pending(t).skip(1))
-        .all(|((due, _), (later, _))| due < later);
+        .any(|((due, _), (later, _))| later < due);
     t.pending <= t.parameters.max_repl
         && pending(t).all(|(_, amount)| amount >= 1)
-        && rise
-        && pending(t).all(|(due, _)| s.now < due && due <= s.now + t.parameters.period - 1)
+        && !fall
+        && pending(t).all(|(due, _)| s.now < due && due - s.now <= FARTHEST_DUE)
 }
 
 /// 01 State 13: activation time lies between start and now.
 fn activation(s: &State, t: &Thread) -> bool {
     s.start <= t.activation && t.activation <= s.now
-}
-
-/// 01 State 14: for a runnable thread at its upper priority every due is before
-/// activation time + period.
-fn upper_dues(t: &Thread) -> bool {
-    let limit = t.activation as u128 + t.parameters.period as u128;
-    !t.runnable() || !upper(t) || pending(t).all(|(due, _)| (due as u128) < limit)
 }
 
 /// 01 State 17: fields that don't apply hold 0. Inside a state the start flag

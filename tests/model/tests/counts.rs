@@ -137,30 +137,44 @@ fn a_refused_event_tells_zeros_of_the_way_to_it_too() {
     assert_eq!(give(&mut s, CLOCK, 40, 0), (9, [0, 0, 0, 0]));
 }
 
+/// The status of a set of thread 0, and its limits, replenishments and amounts.
+fn set(s: &mut State, time: u64, p: Parameters) -> (u8, [u64; 3]) {
+    let e = Event {
+        time,
+        kind: SET,
+        thread: 0,
+        parameters: Parameters { flag: 0, ..p },
+    };
+    let (a, told) = event_told(s, &e);
+    let numbers = told[0];
+    let told = [numbers.limits, numbers.replenishments, numbers.amounts];
+    (a.status, told)
+}
+
 /// What a set throws away is told nowhere; what came before it is.
 #[test]
 fn a_set_tells_the_moments_before_it() {
     let mut s = opened(&[sporadic(10, 40, 2)]);
-    let set = |time| Event {
-        time,
-        kind: SET,
-        thread: 0,
-        parameters: Parameters {
-            flag: 0,
-            ..sporadic(10, 40, 2)
-        },
-    };
-    let told = |s: &mut State, time| {
-        let (a, told) = event_told(s, &set(time));
-        assert_eq!(a.status, 0);
-        let numbers = told[0];
-        (numbers.limits, numbers.replenishments, numbers.amounts)
-    };
-    assert_eq!(told(&mut s, 30), (1, 0, 0));
+    assert_eq!(set(&mut s, 30, fifo(3)), (0, [1, 0, 0]));
     // the 10 that were due at 40 are gone
-    assert_eq!(give(&mut s, CLOCK, 69, 0), (0, [1, 0, 0, 0]));
-    assert_eq!(told(&mut s, 80), (1, 1, 10));
-    assert_eq!(told(&mut s, 80), (0, 0, 0));
+    assert_eq!(give(&mut s, CLOCK, 60, 0), (0, [0, 0, 0, 0]));
+    assert_eq!(set(&mut s, 60, sporadic(10, 40, 2)), (0, [0, 0, 0]));
+    assert_eq!(give(&mut s, CLOCK, 99, 0), (0, [1, 0, 0, 0]));
+    assert_eq!(set(&mut s, 110, fifo(3)), (0, [1, 1, 10]));
+    assert_eq!(set(&mut s, 110, fifo(3)), (0, [0, 0, 0]));
+}
+
+/// A set that carries the account over tells the moments before it too, and nothing of
+/// its own; what was pending is told when it comes back (02 E7).
+#[test]
+fn a_carrying_set_tells_the_moments_before_it() {
+    let mut s = opened(&[sporadic(10, 40, 2)]);
+    assert_eq!(set(&mut s, 30, sporadic(12, 50, 3)), (0, [1, 0, 0]));
+    // 2 more: the second limit is at 32, and 10 and 2 come back at 40 and at 30 + 50
+    assert_eq!(give(&mut s, CLOCK, 39, 0), (0, [1, 0, 0, 0]));
+    assert_eq!(set(&mut s, 40, sporadic(12, 50, 3)), (0, [0, 1, 10]));
+    assert_eq!(set(&mut s, 85, sporadic(3, 50, 3)), (15, [0, 0, 0]));
+    assert_eq!(give(&mut s, CLOCK, 85, 0), (0, [2, 0, 1, 2]));
 }
 
 #[test]

@@ -455,6 +455,7 @@ fn set_sends_to_the_tail_and_keeps_the_total() {
     assert_eq!(s.lists[8].members[..3], [1, 2, 0]);
     assert_eq!(s.threads[0].total, 3);
     assert_eq!(give(&mut s, set(4, 1, rr(2, 6))), (0, 2, 9));
+    assert_eq!(give(&mut s, set(7, 2, fifo(9))), (0, 0, 0));
     assert_eq!(give(&mut s, set(7, 2, sporadic(9, 1, 5, 50, 2))), (0, 0, 0));
     let t = &s.threads[2];
     assert_eq!((t.capacity, t.used, t.activation, t.total), (5, 0, 7, 3));

@@ -43,13 +43,14 @@ fn run_times(s: &State) -> u64 {
 fn extra_clock_readings_change_no_answer() {
     let mut r = Random::new(seed(1));
     let (mut events, mut accepted, mut extra, mut split) = (0u64, 0u64, 0u64, 0u64);
-    let mut by_status = [0u64; 14];
+    let mut by_status = [0u64; 16];
     for run in 0..runs(3_000) {
         let mut first = first_state(&mut r);
         let mut second = first;
+        let aim = r.aim();
         assert!(sound(&first), "run {run}: first state {first:?}");
         for _ in 0..r.between(1, 60) {
-            let e = r.event(&first, 8);
+            let e = r.aimed_event(&first, aim, 8);
             let before = first;
             let (a, alone) = event_told(&mut first, &e);
             let mut sums = NOTHING_TOLD;
@@ -104,6 +105,7 @@ fn extra_clock_readings_change_no_answer() {
     println!("{split} events whose numbers the readings took a part of");
     assert!(split > 0);
     println!("by status {by_status:?}");
+    assert!(by_status[15] > 0);
 }
 
 /// Soundness decides on damaged states and on pure garbage without a panic; a
@@ -193,7 +195,7 @@ fn garbage_states() {
 #[test]
 fn damaged_files() {
     let mut r = Random::new(seed(4));
-    let mut by_status = [0u64; 14];
+    let mut by_status = [0u64; 16];
     for _ in 0..runs(3_000) {
         let n = r.threads();
         let table = r.table(n);

@@ -1,4 +1,4 @@
-//! The soundness list of 01, line by line, and status 9.
+//! The soundness list of 01, line by line, with what 02 E7 4 asks of dues, and status 9.
 
 use model::*;
 
@@ -128,6 +128,28 @@ fn changes_that_stay_sound() {
             s.threads[2].dues[0] = 1_029
         }),
         ("due at now + 1", |s| s.threads[2].dues[0] = 1_001),
+        ("due at activation + period, upper", |s| {
+            s.threads[2].dues[0] = 1_030
+        }),
+        ("due at now + period, upper", |s| {
+            s.threads[2].dues[0] = 1_040
+        }),
+        ("due at now + period, low", |s| s.threads[3].dues[1] = 1_040),
+        ("due at now + period, blocked", |s| {
+            s.threads[5].dues[0] = 1_040
+        }),
+        ("due at now + 10^9", |s| {
+            for (i, k) in [(2, 0), (3, 1), (4, 0), (5, 0)] {
+                s.threads[i].dues[k] = 1_000 + 1_000_000_000;
+            }
+        }),
+        ("dues equal", |s| s.threads[3].dues[1] = 1_001),
+        ("all dues equal", |s| {
+            s.threads[5].capacity = 2;
+            s.threads[5].pending = 8;
+            s.threads[5].dues = [1_000 + 1_000_000_000; 8];
+            s.threads[5].amounts = [1; 8];
+        }),
         ("activation at start, low", |s| {
             s.threads[3].activation = 100
         }),
@@ -277,20 +299,28 @@ fn changes_that_make_it_unsound() {
             s.threads[2].amounts[7] = 1;
             s.threads[2].capacity -= 1;
         }),
-        ("dues equal", |s| s.threads[3].dues[1] = 1_001),
         ("dues fall", |s| {
             s.threads[3].dues = [1_039, 1_001, 0, 0, 0, 0, 0, 0]
         }),
+        ("dues fall by one", |s| s.threads[3].dues[0] = 1_040),
+        ("last due falls", |s| {
+            s.threads[5].capacity = 7;
+            s.threads[5].pending = 3;
+            s.threads[5].dues = [1_039, 1_040, 1_039, 0, 0, 0, 0, 0];
+            s.threads[5].amounts = [1, 1, 1, 0, 0, 0, 0, 0];
+        }),
         ("due now", |s| s.threads[2].dues[0] = 1_000),
         ("due before now", |s| s.threads[3].dues[0] = 999),
-        ("due at now + period, low", |s| s.threads[3].dues[1] = 1_040),
-        ("due at now + period, blocked", |s| {
-            s.threads[5].dues[0] = 1_040
+        ("due after now + 10^9, upper", |s| {
+            s.threads[2].dues[0] = 1_001 + 1_000_000_000
+        }),
+        ("due after now + 10^9, low", |s| {
+            s.threads[3].dues[1] = 1_001 + 1_000_000_000
+        }),
+        ("due after now + 10^9, blocked", |s| {
+            s.threads[5].dues[0] = 1_001 + 1_000_000_000
         }),
         ("due max", |s| s.threads[5].dues[0] = u64::MAX),
-        ("due at activation + period, upper", |s| {
-            s.threads[2].dues[0] = 1_030
-        }),
         // Activation time.
         ("activation before start", |s| s.threads[5].activation = 99),
         ("activation before start, low", |s| {

@@ -13,7 +13,7 @@ use Rattle.base.proofs.TestLaws.{tests, all-false, all-true, false-true, cond-e
 use Rattle.records.specs.declared.Parameters.{Parameters}
 use Rattle.account.specs.declared.Account.{Account}
 use Rattle.account.specs.Account.{pendingDues, pendingAmounts}
-use Rattle.account.specs.Sound.{runsUpper, dueEnd, numberTests, amountTests, dueTests, slotTests, soundTests, soundAt}
+use Rattle.account.specs.Sound.{runsUpper, lastDue, numberTests, amountTests, dueTests, slotTests, soundTests, soundAt}
 use Rattle.account_sound.specs.Lent.{accountOf}
 use Rattle.account_sound.proofs.sound_lent.Statement.{statement}
 use Rattle.account_sound.proofs.sound_lent.Tie as tie
@@ -29,18 +29,13 @@ module _ (start now : ℕ) (blocked : Bool) (p : Parameters) (a : Account) (up :
         → r ≡ all (amountTests (p .budget) (a .server .capacity + a .server .used) (pendingAmounts (a .pending)))
     sums r e = e ∙ ap (λ (k : ℕ). all (amountTests (p .budget) (a .server .capacity + a .server .used) (take k (a .pending .amounts)))) en
 
-    times : (base : ℕ) (r : Bool) → base ≡ cond up (a .server .activation) now → r ≡ all (dueTests now (base + p .period) (take n (a .pending .dues)))
-        → r ≡ all (dueTests now (dueEnd now (runsUpper blocked p a) p (a .server)) (pendingDues (a .pending)))
-    times base r eb e =
-        e
-        ∙ ap (λ (b : ℕ). all (dueTests now (b + p .period) (take n (a .pending .dues)))) (eb ∙ ap (λ (u : Bool). cond u (a .server .activation) now) eu)
-        ∙ ap (λ (k : ℕ). all (dueTests now (dueEnd now (runsUpper blocked p a) p (a .server)) (take k (a .pending .dues)))) en
+    times : (r : Bool) → r ≡ all (dueTests (now + 1) (lastDue now) (take n (a .pending .dues))) → r ≡ all (dueTests (now + 1) (lastDue now) (pendingDues (a .pending)))
+    times r e = e ∙ ap (λ (k : ℕ). all (dueTests (now + 1) (lastDue now) (take k (a .pending .dues)))) en
 
-    entries : (base : ℕ) (r : Bool) → base ≡ cond up (a .server .activation) now
-        → r ≡ all (all (amountTests (p .budget) (a .server .capacity + a .server .used) (take n (a .pending .amounts))) ∷ all (dueTests now (base + p .period) (take n (a .pending .dues))) ∷ [])
-        → r ≡ all (all (amountTests (p .budget) (a .server .capacity + a .server .used) (pendingAmounts (a .pending)))
-        ∷ all (dueTests now (dueEnd now (runsUpper blocked p a) p (a .server)) (pendingDues (a .pending))) ∷ [])
-    entries base r eb e = e ∙ ap₂ (λ (x y : Bool). all (x ∷ y ∷ [])) (sums _ refl) (times base _ eb refl)
+    entries : (r : Bool)
+        → r ≡ all (all (amountTests (p .budget) (a .server .capacity + a .server .used) (take n (a .pending .amounts))) ∷ all (dueTests (now + 1) (lastDue now) (take n (a .pending .dues))) ∷ [])
+        → r ≡ all (all (amountTests (p .budget) (a .server .capacity + a .server .used) (pendingAmounts (a .pending))) ∷ all (dueTests (now + 1) (lastDue now) (pendingDues (a .pending))) ∷ [])
+    entries r e = e ∙ ap₂ (λ (x y : Bool). all (x ∷ y ∷ [])) (sums _ refl) (times _ refl)
 
 -- what is left of a list from n on is what the test of its slots asks
 long : (n count : ℕ) (xs : List ℕ) → n ≡ count → length xs ≡ 8 → all (zeros (take (length xs - n) (drop n xs))) ≡ all (slotTests count xs)
@@ -59,8 +54,7 @@ pair-false true false v w x e = refl
 pair-false false u v w x e = refl
 
 entries-fail : (start now : ℕ) (blocked : Bool) (p : Parameters) (a : Account)
-    → all (all (amountTests (p .budget) (a .server .capacity + a .server .used) (pendingAmounts (a .pending)))
-    ∷ all (dueTests now (dueEnd now (runsUpper blocked p a) p (a .server)) (pendingDues (a .pending))) ∷ []) ≡ false
+    → all (all (amountTests (p .budget) (a .server .capacity + a .server .used) (pendingAmounts (a .pending))) ∷ all (dueTests (now + 1) (lastDue now) (pendingDues (a .pending))) ∷ []) ≡ false
     → all (soundTests start now blocked p a) ≡ false
 entries-fail start now blocked p a e = pair-false _ _ _ _ _ e
 
@@ -81,7 +75,6 @@ record Numbers (c : tie.After-wide) : Type 0 where
       (given (c .before .before .before .before .before .before))) (c .before .before .before .before .before .before .args .p)
       (c .before .before .before .before .before .before .args .s) (c .before .before .before .before .before .before .args .count)) ≡ true
   few : c .wide .result ≤ 8
-  begun : c .before .before .before .before .before .before .args .s .activation ≤ c .before .before .before .before .before .before .args .time
 
 numbered : (c : tie.After-wide) → Numbers c
 numbered c =
@@ -92,7 +85,7 @@ numbered c =
     let e = sym (numbers (a .start) (a .time) (a .blocked) (a .p) (given st) _ (u .runs-upper .ensures) _ (i .before .numbers-hold .ensures))
     ∙ not-false _ (i .if1 .left) in
     let h = all-true (numberTests (a .start) (a .time) (runsUpper (a .blocked) (a .p) (given st)) (a .p) (a .s) (a .count)) e in
-    record { first = e; few = omega (tests, h, c .wide .ensures); begun = omega (tests, h) }
+    record { first = e; few = omega (tests, h, c .wide .ensures) }
 
 runs-upper-requires : tie.Need-runs-upper-requires
 runs-upper-requires c κs = search needs
@@ -113,53 +106,44 @@ returns c =
 wide-requires : tie.Need-wide-requires
 wide-requires c κs = search needs
 
-either-requires : tie.Need-either-requires
-either-requires c κs = search needs
-
 slice-aggregate-entries-hold : tie.Need-slice-aggregate-entries-hold
 slice-aggregate-entries-hold c =
-    let w = c .before .before in
+    let w = c .before in
     let a = w .before .before .before .before .before .before .args in
     omega (arith, length-take (w .wide .result) (a .amounts .now), numbered w .few)
 
 slice-aggregate-entries-hold-2 : tie.Need-slice-aggregate-entries-hold-2
 slice-aggregate-entries-hold-2 c =
-    let w = c .before .before .before in
+    let w = c .before .before in
     let a = w .before .before .before .before .before .before .args in
     omega (arith, length-take (w .wide .result) (a .dues .now), numbered w .few)
 
 entries-hold-requires : tie.Need-entries-hold-requires
 entries-hold-requires c κs =
-    let t = c .before .before in
-    let w = t .before in
-    let u = w .before .before .before in
-    let a = u .before .before .before .args in
-    let n = w .wide .result in (
-      omega (arith, length-take n (a .amounts .now), length-take n (a .dues .now), numbered w .few),
-      rw (t .either .ensures)
-          (cond-elim (λ (b : ℕ). b ≤ a .time) (u .runs-upper .result) (a .s .activation) (a .time) (λ e. numbered w .begun) (λ e. omega arith)),
-    )
+    let w = c .before .before in
+    let a = w .before .before .before .before .before .before .args in
+    let n = w .wide .result in
+    omega (arith, length-take n (a .amounts .now), length-take n (a .dues .now), numbered w .few)
 
 returns-2 : tie.Need-returns-2
 unfolding soundAt
 returns-2 c =
-    let t = c .before .before .before .before in
-    let w = t .before in
+    let w = c .before .before .before .before in
     let u = w .before .before .before in
     let st = u .before .before .before in
     let a = st .args in
     sym
     (entries-fail (a .start) (a .time) (a .blocked) (a .p) (given st)
-    (sym (entries (a .start) (a .time) (a .blocked) (a .p) (given st) _ (u .runs-upper .ensures) _ (w .wide .ensures) _ _ (t .either .ensures) (c .before .entries-hold .ensures)) ∙ not-true _ (c .if2 .taken)))
+    (sym (entries (a .start) (a .time) (a .blocked) (a .p) (given st) _ (u .runs-upper .ensures) _ (w .wide .ensures) _ (c .before .entries-hold .ensures)) ∙ not-true _ (c .if2 .taken)))
 
 mul-clear : tie.Need-mul-clear
 mul-clear c = search needs
 
 sub-clear : tie.Need-sub-clear
-sub-clear c = omega (arith, numbered (c .before .before .before .before .before) .few)
+sub-clear c = omega (arith, numbered (c .before .before .before .before) .few)
 
 part-clear-start : tie.Need-part-clear-start
-part-clear-start c = omega (arith, numbered (c .before .before .before .before .before) .few)
+part-clear-start c = omega (arith, numbered (c .before .before .before .before) .few)
 
 part-clear-end : tie.Need-part-clear-end
 part-clear-end c = search needs
@@ -168,10 +152,10 @@ mul-clear-2 : tie.Need-mul-clear-2
 mul-clear-2 c = search needs
 
 sub-clear-2 : tie.Need-sub-clear-2
-sub-clear-2 c = omega (arith, numbered (c .before .before .before .before .before .before) .few)
+sub-clear-2 c = omega (arith, numbered (c .before .before .before .before .before) .few)
 
 part-clear-start-2 : tie.Need-part-clear-start-2
-part-clear-start-2 c = omega (arith, numbered (c .before .before .before .before .before .before) .few)
+part-clear-start-2 c = omega (arith, numbered (c .before .before .before .before .before) .few)
 
 part-clear-end-2 : tie.Need-part-clear-end-2
 part-clear-end-2 c = search needs
@@ -183,13 +167,12 @@ returns-3 : tie.Need-returns-3
 unfolding soundAt
 returns-3 c =
     let i = c .before .before .before in
-    let t = i .before .before .before .before in
-    let w = t .before in
+    let w = i .before .before .before .before in
     let u = w .before .before .before in
     let st = u .before .before .before in
     let a = st .args in
     let h = all-true _
-    (sym (entries (a .start) (a .time) (a .blocked) (a .p) (given st) _ (u .runs-upper .ensures) _ (w .wide .ensures) _ _ (t .either .ensures) (i .before .entries-hold .ensures)) ∙ not-false _ (i .if2 .left)) in
+    (sym (entries (a .start) (a .time) (a .blocked) (a .p) (given st) _ (u .runs-upper .ensures) _ (w .wide .ensures) _ (i .before .entries-hold .ensures)) ∙ not-false _ (i .if2 .left)) in
     c .clear .ensures
     ∙ ap₂ (λ (x y : Bool). all (x ∷ y ∷ [])) (long _ _ (a .dues .now) (w .wide .ensures) (omega arith)) (long _ _ (a .amounts .now) (w .wide .ensures) (omega arith))
     ∙ last-two _ _ _ _ _ (numbered w .first) (h .0) (h .1 .0)
@@ -202,7 +185,6 @@ sound-lent-spec =
     numbers-hold-requires
     returns
     wide-requires
-    either-requires
     slice-aggregate-entries-hold
     slice-aggregate-entries-hold-2
     entries-hold-requires

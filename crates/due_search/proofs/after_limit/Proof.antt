@@ -22,7 +22,7 @@ returns-2 c counts dues n h =
     let a = c .before .before .before .before .args in
     let z = ne-eqb _ _ (c .before .before .before .if1 .left) in
     let e : c .sooner-of .result ≡ afterEntry (a .x) (a .k) (a .count) (a .d) =
-    simp (z, ne-eqb _ _ (c .before .if2 .taken)) (c .sooner-of .ensures) in
+    simp (z, ne-eqb (a .d) (a .x .due) (λ q. omega (arith, c .before .if2 .taken))) (c .sooner-of .ensures) in
     e ∙ entry-came (a .x) (a .k) (a .count) (a .d) counts dues n h
 
 returns-3 : tie.Need-returns-3
@@ -30,14 +30,14 @@ returns-3 c counts dues n h =
     let a = c .before .before .before .before .before .args in
     let l : a .k < a .x .thread = omega (arith, c .if3 .taken) in
     let e : _≡_ {A = Due} (record { due = a .d; thread = a .k }) (afterEntry (a .x) (a .k) (a .count) (a .d)) =
-    simp (ne-eqb _ _ (c .before .before .before .before .if1 .left), eq-eqb _ _ (c .before .before .if2 .left), lt-ltb (a .k) (a .x .thread) l) in
+    simp (ne-eqb _ _ (c .before .before .before .before .if1 .left), eq-eqb (a .d) (a .x .due) (omega (arith, c .before .before .if2 .left)), lt-ltb (a .k) (a .x .thread) l) in
     e ∙ entry-came (a .x) (a .k) (a .count) (a .d) counts dues n h
 
 returns-4 : tie.Need-returns-4
 returns-4 c counts dues n h =
     let a = c .before .before .before .before .before .args in
     let e : a .x ≡ afterEntry (a .x) (a .k) (a .count) (a .d) =
-    simp (ne-eqb _ _ (c .before .before .before .before .if1 .left), eq-eqb _ _ (c .before .before .if2 .left), le-ltb _ _ (c .if3 .left)) in
+    simp (ne-eqb _ _ (c .before .before .before .before .if1 .left), eq-eqb (a .d) (a .x .due) (omega (arith, c .before .before .if2 .left)), le-ltb _ _ (c .if3 .left)) in
     e ∙ entry-came (a .x) (a .k) (a .count) (a .d) counts dues n h
 
 pub after-limit-spec : {M : Type 1} → statement M

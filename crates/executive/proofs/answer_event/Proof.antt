@@ -1,20 +1,20 @@
--- `executive::answer_event` meets its contract: each turn either passes time, does what the event does, or gives the answer.
+-- `executive::answer_event` meets its contract: each turn either judges a set that carries an account over, passes time, does what the event
+-- does, or gives the answer.
 use borrow.Author.Needs.{needs}
-use Prim.Native.Nat.{ℕ, suc, _-_, _<_}
+use Prim.Native.Nat.{ℕ, _+_, _-_, _≤_, _<_, _^_}
 use mathlib.Core.Bool.{true, false, cond, not}
 use mathlib.Core.Path.{_≡_, refl, sym, ap, _∙_, subst⁻¹}
 use native.Mathlib.Omega.{arith}
 use lib.Dec.{eqb}
-use mathlib.Core.List.{List}
-use lib.ListN.{set}
 use borrow.Author.Tests.{not-true, not-false}
+use mathlib.Core.List.{List}
+use lib.ListN.{replicate, set}
 use Rattle.base.proofs.TestLaws.{tests}
 use Rattle.records.specs.declared.Event.{Event}
 use Rattle.passing.specs.Time.{dueBy}
 use Rattle.reports.specs.Tallies.{backTally, moreOf}
 use Rattle.state.specs.declared.State.{State}
 use Rattle.state.specs.State.{threadAt}
-use Rattle.state.specs.Sound.{soundState}
 use Rattle.state.specs.Updates.{stateOf, whole}
 use Rattle.state.proofs.SoundLaws.{Sound, state-out}
 use Rattle.ticks.specs.Running.{limitOf, next}
@@ -30,17 +30,20 @@ use Rattle.answers.specs.Answer.{answerOf}
 use Rattle.answers.proofs.AnswerLaws.{answered-is}
 use Rattle.executive.proofs.RequiresLaws.{dues-length, amounts-length}
 use Rattle.executive.proofs.ToldLaws.{Told, told-clock, own-requires, told-own}
-use Rattle.executive.proofs.StepLaws.{Open, Stage, unsound-is, unsound-told, arrives, at-time, still-due, turn-falls, turn-ends, starts, carries, finishes}
-use Rattle.executive.proofs.DoneLaws.{Concerns, happened-none, who-is, change-small, change-requires, change-is}
+use Rattle.executive.specs.Private.{carryStatusAt}
+use Rattle.executive.proofs.CarryLaws.{now-status}
+use Rattle.executive.proofs.StepLaws.{Open, Judges, Stage, unsound-is, unsound-told, arrives, allowed, at-time, still-due, weight, turn-falls, turn-ends, turn-judges, starts, judged, carries, finishes}
+use Rattle.executive.proofs.DoneLaws.{Concerns, happened-none, who-is, change-small, change-requires, set-requires, change-is}
 use Rattle.executive.proofs.DoneLaws as laws
 use Rattle.executive.proofs.answer_event.Statement.{statement}
 use Rattle.executive.proofs.answer_event.Tie as tie
 
 abbrev Inv-loop : tie.InvT-loop
-Inv-loop dues₀ amounts₀ told₀ e known s₀ status done₀ dues amounts told s done = Stage (whole s₀ dues₀ amounts₀) e status (whole s dues amounts) told done
+Inv-loop dues₀ amounts₀ told₀ e known s₀ at status₀ done₀ judging₀ dues amounts told s status done judging =
+    Stage (whole s₀ dues₀ amounts₀) e status (whole s dues amounts) told done judging
 
 abbrev μ-loop : tie.MeasureT-loop
-μ-loop dues₀ amounts₀ told₀ e known s₀ status done₀ dues amounts told s done = cond done 0 (suc (e .time - s .now))
+μ-loop dues₀ amounts₀ told₀ e known s₀ at status₀ done₀ judging₀ dues amounts told s status done judging = weight done judging (e .time - s .now)
 
 -- ---- the stages, each with the way to an earlier one
 
@@ -48,13 +51,21 @@ abbrev μ-loop : tie.MeasureT-loop
 abbrev Given : Type 0
 Given = tie.Start Inv-loop μ-loop
 
+-- the numbers are zeros
+abbrev Cleared : Type 0
+Cleared = tie.After-clear Inv-loop μ-loop
+
 -- soundness is tested
 abbrev Tested : Type 0
 Tested = tie.After-tested Inv-loop μ-loop
 
--- the event is judged
+-- the place of the thread that the event names is known
+abbrev Placed : Type 0
+Placed = tie.After-index Inv-loop μ-loop
+
+-- the event is judged, but for 15
 abbrev Judged : Type 0
-Judged = tie.After-status-of Inv-loop μ-loop
+Judged = tie.After-carries-over Inv-loop μ-loop
 
 -- a turn begins
 abbrev Here : Type 0
@@ -69,12 +80,20 @@ abbrev Read : Type 0
 Read = tie.After-next-moment Inv-loop μ-loop
 
 -- the event is still to come
+abbrev Undone : Type 0
+Undone = tie.Else2 Inv-loop μ-loop
+
+-- and 15 is to be judged
+abbrev Judging : Type 0
+Judging = tie.Then3 Inv-loop μ-loop
+
+-- or the event is accepted
 abbrev Still : Type 0
-Still = tie.Else2 Inv-loop μ-loop
+Still = tie.Else3 Inv-loop μ-loop
 
 -- no moment is due by its time
 abbrev Rest : Type 0
-Rest = tie.Else3 Inv-loop μ-loop
+Rest = tie.Else5 Inv-loop μ-loop
 
 -- the ticks up to its time are charged
 abbrev Charged : Type 0
@@ -92,9 +111,11 @@ Found = tie.After-pending-at Inv-loop μ-loop
 abbrev Put : Type 0
 Put = tie.After-served Inv-loop μ-loop
 
--- the numbers are zeros
-abbrev Cleared : Type 0
-Cleared = tie.After-clear Inv-loop μ-loop
+abbrev placed : Judged → Placed
+placed c = c .before .before .before .before
+
+abbrev checked : Placed → Tested
+checked c = c .before .before
 
 abbrev cleared : Tested → Cleared
 cleared c = c .before .before .before .before .before .before .before .before
@@ -102,11 +123,8 @@ cleared c = c .before .before .before .before .before .before .before .before
 abbrev given : Tested → Given
 given c = cleared c .before .before
 
-abbrev checked : Judged → Tested
-checked c = c .before .before .before .before .before
-
 abbrev entry : Here → Given
-entry c = given (checked (c .before))
+entry c = given (checked (placed (c .before)))
 
 abbrev begun : Topped → Here
 begun c = c .before .before .before .before .before
@@ -114,8 +132,11 @@ begun c = c .before .before .before .before .before
 abbrev topped : Read → Topped
 topped c = c .before .before .before .before .before
 
+abbrev turned : Undone → Here
+turned c = begun (topped (c .before))
+
 abbrev here : Still → Here
-here c = begun (topped (c .before))
+here c = turned (c .before)
 
 abbrev still : Rest → Still
 still c = c .before .before
@@ -181,12 +202,18 @@ element-copy-out-named c = c .index .ensures .0
 status-of-requires : tie.Need-status-of-requires Inv-loop μ-loop
 status-of-requires c κs = tt
 
+carries-over-requires : tie.Need-carries-over-requires Inv-loop μ-loop
+carries-over-requires c κs = tt
+
 loop-holds : tie.Need-loop-holds Inv-loop μ-loop
 loop-holds c =
-    let k = checked c in
-    let x = c .before .before .before in
-    subst⁻¹ (λ (told : List ℕ). Stage (stateGiven (given k)) (given k .args .e) (c .status-of .result) (stateGiven (given k)) told (not (eqb (c .status-of .result) 0))) (cleared k .clear .ensures)
-    (starts (stateGiven (given k)) (given k .args .e) (sym (k .tested .ensures) ∙ not-false _ (x .before .if1 .left)) (x .index .result) (x .index .ensures .1) (c .status-of .result) (c .status-of .ensures))
+    let x = placed c in
+    let k = c .before .status-of in
+    let t = checked x in
+    let g = given t in
+    subst⁻¹ (λ (told : List ℕ). Stage (stateGiven g) (g .args .e) (k .result) (stateGiven g) told (not (eqb (k .result) 0)) (c .carries-over .result)) (cleared t .clear .ensures)
+    (starts (stateGiven g) (g .args .e) (sym (t .tested .ensures) ∙ not-false _ (x .before .if1 .left)) (x .index .result) (x .index .ensures .1) (k .result) (k .ensures) (c .carries-over .result)
+    (c .carries-over .ensures))
 
 -- ---- a turn
 
@@ -238,28 +265,17 @@ returns-2 c =
 due-by-requires : tie.Need-due-by-requires Inv-loop μ-loop
 due-by-requires c κs = tt
 
--- ---- the event is still to come
-
-to-come : (c : Still) → Open (stateGiven (entry (here c))) (eventOf (here c)) (stateHere (here c))
-to-come c = here c .loop .inv .going (c .if2 .left) .1
-
-accepted : (c : Still) → here c .before .status-of .result ≡ 0
-accepted c = here c .loop .inv .going (c .if2 .left) .0
-
-telling : (c : Still) → Told (stateGiven (entry (here c))) (eventOf (here c) .time) (stateHere (here c)) (here c .loop .told)
-telling c = here c .loop .inv .going (c .if2 .left) .2
-
--- what is known once the next moment is
-abbrev turn : (c : Still) → Turn
-turn c =
+-- what is known once the next moment is, for an event that is still to come
+abbrev turnAt : (c : Undone) → eventOf (turned c) .time ≤ 1000000000000000 → stateHere (turned c) .now ≤ eventOf (turned c) .time → Turn
+turnAt c top by =
     let w = topped (c .before) in
-    let s = stateHere (here c) in
+    let s = stateHere (turned c) in
     record {
       origin = s;
-      to = eventOf (here c) .time;
-      bounded = to-come c .top;
+      to = eventOf (turned c) .time;
+      bounded = top;
       state = s;
-      going = start s (eventOf (here c) .time) (state-out s (to-come c .sound)) (to-come c .by);
+      going = start s (eventOf (turned c) .time) (sound (turned c)) by;
       first = firstOf s;
       list = w .before .before .before .before .highest .result;
       head = w .before .head-at .result;
@@ -276,11 +292,100 @@ turn c =
       };
     }
 
-is-due : (c : tie.Then3 Inv-loop μ-loop) → dueBy (next (stateHere (here (c .before .before)))) (eventOf (here (c .before .before)) .time) ≡ true
-is-due c = ap (λ (m : ℕ). dueBy m (eventOf (here (c .before .before)) .time)) (sym (is-next (turn (c .before .before)))) ∙ sym (c .before .due-by .ensures) ∙ c .if3 .taken
+-- ---- a set that carries an account over is judged
+
+untouched : (c : Judging) → (stateHere (turned (c .before)) ≡ stateGiven (entry (turned (c .before)))) × (turned (c .before) .loop .told ≡ replicate 128 0) × Judges (stateGiven (entry (turned (c .before)))) (eventOf (turned (c .before)))
+untouched c = turned (c .before) .loop .inv .judges (c .before .if2 .left) (c .if3 .taken)
+
+judging : (c : Judging) → Judges (stateHere (turned (c .before))) (eventOf (turned (c .before)))
+judging c = subst⁻¹ (λ (x : State). Judges x (eventOf (turned (c .before)))) (untouched c .0) (untouched c .2)
+
+-- its status makes the next stage
+settled : (c : Judging) (k : ℕ) → k ≡ carryStatusAt (passed (stateHere (turned (c .before))) (eventOf (turned (c .before)) .time)) (eventOf (turned (c .before)))
+    → Stage (stateGiven (entry (turned (c .before)))) (eventOf (turned (c .before))) k (stateHere (turned (c .before))) (turned (c .before) .loop .told) (not (eqb k 0)) false
+settled c k f = judged _ _ (eventOf (turned (c .before))) _ (untouched c) k f
+
+status-then-requires : tie.Need-status-then-requires Inv-loop μ-loop
+status-then-requires c κs = let j = judging (c .before .before .before .before) in (j .sound, j .by, j .top, j .near, j .there)
+
+loop-less : tie.Need-loop-less Inv-loop μ-loop
+loop-less c = let d = c .before .before .before .before .before in turn-judges _ _ (not (eqb (c .status-then .result) 0)) _ (d .before .if2 .left) (d .if3 .taken)
+
+loop-again : tie.Need-loop-again Inv-loop μ-loop
+loop-again c = settled (c .before .before .before .before .before) _ (c .status-then .ensures)
+
+-- where no moment is due by its time
+place-small : (c : Judging) → placed (turned (c .before) .before) .index .result < 32
+place-small c = placed (turned (c .before) .before) .index .ensures .0
+
+mul-worker : tie.Need-mul-worker Inv-loop μ-loop
+mul-worker c = omega (arith, place-small (c .before .before))
+
+element-copy-out-worker : tie.Need-element-copy-out-worker Inv-loop μ-loop
+element-copy-out-worker c = place-small (c .before .before)
+
+element-copy-out-status-now : tie.Need-element-copy-out-status-now Inv-loop μ-loop
+element-copy-out-status-now c = place-small (c .before .before .before)
+
+abbrev turnNow : Judging → Turn
+turnNow c = let j = judging c in turnAt (c .before) (j .top) (j .by)
+
+none-now : (c : tie.Else4 Inv-loop μ-loop) → dueBy (turnNow (c .before .before) .moment) (turnNow (c .before .before) .to) ≡ false
+none-now c = sym (c .before .due-by .ensures) ∙ c .if4 .left
+
+-- the thread stands where its number says
+stands : (c : Judging) → placed (turned (c .before) .before) .index .result ≡ eventOf (turned (c .before)) .thread
+stands c = placed (turned (c .before) .before) .index .ensures .1 (judging c .there)
+
+status-now-requires : tie.Need-status-now-requires Inv-loop μ-loop
+status-now-requires c κs =
+    let x = c .before .before in
+    let d = x .before .before in
+    let w = topped (d .before .before) in (
+      judging d .by,
+      λ q. subst⁻¹ (λ (n : ℕ). eqb (turnNow d .list) 0 ≡ false → (threadAt (turnNow d .state) n .total + (turnNow d .to - turnNow d .state .now) < 2 ^ 64)
+          × (threadAt (turnNow d .state) n .server .used + (turnNow d .to - turnNow d .state .now) < 2 ^ 64)
+          × (threadAt (turnNow d .state) n .parameters .policy ≡ 1 → turnNow d .to - turnNow d .state .now ≤ threadAt (turnNow d .state) n .left)
+          × (1 < threadAt (turnNow d .state) n .parameters .policy → turnNow d .list ≡ threadAt (turnNow d .state) n .parameters .priority → turnNow d .to - turnNow d .state .now ≤ threadAt (turnNow d .state) n .server .capacity))
+          (stands d ∙ sym q ∙ sym (w .wide .ensures))
+          (rest-fits (turnNow d) (none-now x)),
+    )
+
+loop-less-2 : tie.Need-loop-less-2 Inv-loop μ-loop
+loop-less-2 c = let d = c .before .before .before .before .before in turn-judges _ _ (not (eqb (c .status-now .result) 0)) _ (d .before .if2 .left) (d .if3 .taken)
+
+loop-again-2 : tie.Need-loop-again-2 Inv-loop μ-loop
+loop-again-2 c =
+    let x = c .before .before .before in
+    let d = x .before .before in
+    let w = topped (d .before .before) in
+    settled d _ (c .status-now .ensures ∙ now-status (turnNow d) (none-now x) (omega (tests, sound (turned (d .before)) .sizes, head-small w)) (eventOf (turned (d .before))) _ _ (stands d) (w .wide .ensures))
+
+due-by-requires-2 : tie.Need-due-by-requires-2 Inv-loop μ-loop
+due-by-requires-2 c κs = tt
+
+-- ---- the event is still to come
+
+standing : (c : Still) → (turned (c .before) .loop .status ≡ 0) × Open (stateGiven (entry (here c))) (eventOf (here c)) (stateHere (here c)) × Told (stateGiven (entry (here c))) (eventOf (here c) .time) (stateHere (here c)) (here c .loop .told)
+standing c = here c .loop .inv .going (c .before .if2 .left) (c .if3 .left)
+
+to-come : (c : Still) → Open (stateGiven (entry (here c))) (eventOf (here c)) (stateHere (here c))
+to-come c = standing c .1
+
+accepted : (c : Still) → here c .loop .status ≡ 0
+accepted c = standing c .0
+
+telling : (c : Still) → Told (stateGiven (entry (here c))) (eventOf (here c) .time) (stateHere (here c)) (here c .loop .told)
+telling c = standing c .2
+
+abbrev turn : (c : Still) → Turn
+turn c = turnAt (c .before) (to-come c .top) (to-come c .by)
+
+is-due : (c : tie.Then5 Inv-loop μ-loop) → dueBy (next (stateHere (here (c .before .before)))) (eventOf (here (c .before .before)) .time) ≡ true
+is-due c = ap (λ (m : ℕ). dueBy m (eventOf (here (c .before .before)) .time)) (sym (is-next (turn (c .before .before)))) ∙ sym (c .before .due-by2 .ensures) ∙ c .if5 .taken
 
 -- so the event's time is still to come
-before : (c : tie.Then3 Inv-loop μ-loop) → stateHere (here (c .before .before)) .now < eventOf (here (c .before .before)) .time
+before : (c : tie.Then5 Inv-loop μ-loop) → stateHere (here (c .before .before)) .now < eventOf (here (c .before .before)) .time
 before c = let b = c .before .before in still-due _ (eventOf (here b)) (stateHere (here b)) (to-come b) (is-due c)
 
 advance-requires : tie.Need-advance-requires Inv-loop μ-loop
@@ -288,24 +393,24 @@ advance-requires c κs =
     let d = c .before .before .before in
     let o = to-come (d .before .before) in (o .sound, o .by, o .top, o .near, telling (d .before .before) .early (before d) .1)
 
-loop-less : tie.Need-loop-less Inv-loop μ-loop
-loop-less c =
+loop-less-3 : tie.Need-loop-less-3 Inv-loop μ-loop
+loop-less-3 c =
     let d = c .before .before .before .before in
     let b = d .before .before in
     let e = eventOf (here b) in
     let s = stateHere (here b) in
-    turn-falls _ (e .time) _ _ (b .if2 .left) (before d) (at-time _ e s (to-come b) _ (c .advance .ensures .0))
+    turn-falls _ (here b .loop .judging) (e .time) _ _ (b .before .if2 .left) (before d) (at-time _ e s (to-come b) _ (c .advance .ensures .0))
 
-loop-again : tie.Need-loop-again Inv-loop μ-loop
-loop-again c =
+loop-again-3 : tie.Need-loop-again-3 Inv-loop μ-loop
+loop-again-3 c =
     let d = c .before .before .before .before in
     let b = d .before .before in
-    carries _ (eventOf (here b)) _ (stateHere (here b)) (accepted b) (to-come b) _ (c .advance .ensures .0) _ _ (telling b) (before d) (c .advance .ensures .1) _ (b .if2 .left)
+    carries _ (eventOf (here b)) _ (stateHere (here b)) (accepted b) (to-come b) _ (c .advance .ensures .0) _ _ _ (telling b) (before d) (c .advance .ensures .1) _ (b .before .if2 .left) (b .if3 .left)
 
 -- ---- no moment is due by the event's time
 
 not-due : (c : Rest) → dueBy (turn (still c) .moment) (turn (still c) .to) ≡ false
-not-due c = sym (c .before .due-by .ensures) ∙ c .if3 .left
+not-due c = sym (c .before .due-by2 .ensures) ∙ c .if5 .left
 
 none-due : (c : Rest) → dueBy (next (stateHere (here (still c)))) (eventOf (here (still c)) .time) ≡ false
 none-due c = ap (λ (m : ℕ). dueBy m (turn (still c) .to)) (sym (is-next (turn (still c)))) ∙ not-due c
@@ -317,10 +422,10 @@ charged-thread-requires : tie.Need-charged-thread-requires Inv-loop μ-loop
 charged-thread-requires c κs = rest-fits (turn (still (c .before))) (not-due (c .before))
 
 mul-charged : tie.Need-mul-charged Inv-loop μ-loop
-mul-charged c = omega (arith, head-small (topped (still (c .before .before) .before)))
+mul-charged c = omega (arith, head-small (topped (still (c .before .before) .before .before)))
 
 element-set-from-charged : tie.Need-element-set-from-charged Inv-loop μ-loop
-element-set-from-charged c = head-small (topped (still (c .before .before) .before))
+element-set-from-charged c = head-small (topped (still (c .before .before) .before .before))
 
 charged-idle-requires : tie.Need-charged-idle-requires Inv-loop μ-loop
 charged-idle-requires c κs = rest-idle (turn (still (c .before .before)))
@@ -330,7 +435,7 @@ abbrev atTime : Charged → State
 atTime c =
     let b = still (rest c) in
     let s = stateHere (here b) in
-    stateOf (s .header) (eventOf (here b) .time) (c .charged-idle .result) (s .word) (set (s .threads) (topped (b .before) .wide .result) (c .before .charged-thread .result)) (s .counts) (s .dues) (s .amounts) (s .lists)
+    stateOf (s .header) (eventOf (here b) .time) (c .charged-idle .result) (s .word) (set (s .threads) (topped (b .before .before) .wide .result) (c .before .charged-thread .result)) (s .counts) (s .dues) (s .amounts) (s .lists)
 
 abbrev eventAt : Charged → Event
 eventAt c = eventOf (here (still (rest c)))
@@ -340,17 +445,17 @@ has-passed c = last (turn (still (rest c))) (not-due (rest c)) (c .charged-idle 
 
 -- and what the event leaves, with what it tells
 finished : (c : Charged) (told : List ℕ) → told ≡ eventNumbers (stateGiven (entry (here (still (rest c))))) (eventAt c) → (r : State) → r ≡ happened (atTime c) (eventAt c)
-    → Stage (stateGiven (entry (here (still (rest c))))) (eventAt c) (here (still (rest c)) .before .status-of .result) r told true
-finished c told m r g = let b = still (rest c) in finishes _ (eventAt c) _ (stateHere (here b)) (accepted b) (to-come b) (atTime c) (has-passed c) told m r g
+    → Stage (stateGiven (entry (here (still (rest c))))) (eventAt c) (here (still (rest c)) .loop .status) r told true (here (still (rest c)) .loop .judging)
+finished c told m r g = let b = still (rest c) in finishes _ (eventAt c) _ (stateHere (here b)) (accepted b) (to-come b) (atTime c) (has-passed c) _ told m r g
 
-loop-less-2 : tie.Need-loop-less-2 Inv-loop μ-loop
-loop-less-2 c = turn-ends _ _ (still (rest (c .before .before)) .if2 .left)
+loop-less-4 : tie.Need-loop-less-4 Inv-loop μ-loop
+loop-less-4 c = let b = still (rest (c .before .before)) in turn-ends _ (here b .loop .judging) _ 0 (b .before .if2 .left)
 
-loop-again-2 : tie.Need-loop-again-2 Inv-loop μ-loop
-loop-again-2 c =
+loop-again-4 : tie.Need-loop-again-4 Inv-loop μ-loop
+loop-again-4 c =
     let b = c .before .before in
     let o = still (rest b) in
-    finished b _ (told-clock _ (eventAt b) (to-come o .accepted) _ _ (telling o) (none-due (rest b)) (c .if4 .taken)) (atTime b) (happened-none (atTime b) (eventAt b) (c .if4 .taken))
+    finished b _ (told-clock _ (eventAt b) (to-come o .accepted) _ _ (telling o) (none-due (rest b)) (c .if6 .taken)) (atTime b) (happened-none (atTime b) (eventAt b) (c .if6 .taken))
 
 -- ---- the thread that the event concerns
 
@@ -364,16 +469,17 @@ concerns : (c : Named) → Concerns (atTime (charged c)) (eventAt (charged c)) (
 concerns c =
     let k = charged c in
     let b = still (rest k) in
-    let w = topped (b .before) in
+    let w = topped (b .before .before) in
     let e = eventAt k in
     let o = arrives _ e (stateHere (here b)) (to-come b) (atTime k) (has-passed k) in
-    let l : 0 < e .kind = omega (arith, c .before .before .if4 .left) in
+    let f = allowed _ e (stateHere (here b)) (to-come b) (atTime k) (has-passed k) in
+    let l : 0 < e .kind = omega (arith, c .before .before .if6 .left) in
     record {
       sound = o .sound;
       fields = o .fields;
-      allows = o .allows;
+      allows = f;
       some = l;
-      who = who-is (atTime k) e (o .sound) (o .fields) (o .allows) l _ _ (w .before .before .before .before .highest .ensures) (w .before .head-at .ensures) _ (c .before .concerned .ensures);
+      who = who-is (atTime k) e (o .sound) (o .fields) f l _ _ (w .before .before .before .before .highest .ensures) (w .before .head-at .ensures) _ (c .before .concerned .ensures);
       there = c .wide2 .ensures;
     }
 
@@ -421,7 +527,11 @@ pending-at-requires c κs =
     let a = concerns k .sound in (small k, dues-length (atTime (charged k)) a, amounts-length (atTime (charged k)) a)
 
 change-of-requires : tie.Need-change-of-requires Inv-loop μ-loop
-change-of-requires c κs = let k = named c in (concerns k .some, change-requires (atTime (charged k)) (eventAt (charged k)) _ _ (concerns k) _ (c .pending-at .ensures))
+change-of-requires c κs =
+    let k = named c in
+    let s = atTime (charged k) in
+    let e = eventAt (charged k) in
+    (concerns k .some, change-requires s e _ _ (concerns k) _ (c .pending-at .ensures), set-requires s e _ _ (concerns k) _ (c .pending-at .ensures))
 
 -- ---- its change
 
@@ -448,11 +558,11 @@ shift-requires c κs =
     let k = named f in
     laws.shift-requires (atTime (charged k)) (eventAt (charged k)) _ _ (concerns k) _ (f .pending-at .ensures) _ (c .before .before .before .before .before .before .before .before .change-of .ensures)
 
-loop-less-3 : tie.Need-loop-less-3 Inv-loop μ-loop
-loop-less-3 c = turn-ends _ _ (still (rest (charged (named (found (c .before .before .before .before .before))))) .if2 .left)
+loop-less-5 : tie.Need-loop-less-5 Inv-loop μ-loop
+loop-less-5 c = let b = still (rest (charged (named (found (c .before .before .before .before .before))))) in turn-ends _ (here b .loop .judging) _ 0 (b .before .if2 .left)
 
-loop-again-3 : tie.Need-loop-again-3 Inv-loop μ-loop
-loop-again-3 c =
+loop-again-5 : tie.Need-loop-again-5 Inv-loop μ-loop
+loop-again-5 c =
     let w = c .before .before in
     let p = w .before .before .before in
     let k = named (found p) in
@@ -473,6 +583,7 @@ answer-event-spec =
     mul-named
     element-copy-out-named
     status-of-requires
+    carries-over-requires
     loop-holds
     cast-n
     highest-requires
@@ -485,16 +596,26 @@ answer-event-spec =
     answer-of-requires
     returns-2
     due-by-requires
-    advance-requires
+    status-then-requires
     loop-less
     loop-again
+    mul-worker
+    element-copy-out-worker
+    element-copy-out-status-now
+    status-now-requires
+    loop-less-2
+    loop-again-2
+    due-by-requires-2
+    advance-requires
+    loop-less-3
+    loop-again-3
     sub-k
     charged-thread-requires
     mul-charged
     element-set-from-charged
     charged-idle-requires
-    loop-less-2
-    loop-again-2
+    loop-less-4
+    loop-again-4
     concerned-requires
     wide-requires-2
     mul-t
@@ -509,5 +630,5 @@ answer-event-spec =
     element-write-s
     write-pending-requires
     shift-requires
-    loop-less-3
-    loop-again-3)
+    loop-less-5
+    loop-again-5)

@@ -382,36 +382,36 @@ element-write-s c = small (for (c .before .before .before .before .before .befor
 word-after-requires : tie.Need-word-after-requires Inv-loop μ-loop
 word-after-requires c κs = small (for (c .before .before .before .before .before .before .before))
 
-change-row-requires : tie.Need-change-row-requires Inv-loop μ-loop
-change-row-requires c κs = let o = c .before .before .before .before .before .before .before .before .before in (small (for o), omega (tests, turnOf (of (for o)) .going .mid .sizes), fits o)
-
-change-row-requires-2 : tie.Need-change-row-requires-2 Inv-loop μ-loop
-change-row-requires-2 c κs = let o = c .before .before .before .before .before .before .before .before .before .before .before in (small (for o), omega (tests, turnOf (of (for o)) .going .mid .sizes), fits o)
+change-rows-requires : tie.Need-change-rows-requires Inv-loop μ-loop
+change-rows-requires c κs =
+    let o = c .before .before .before .before .before .before .before .before .before .before in
+    let z = turnOf (of (for o)) .going .mid .sizes in
+    (small (for o), omega (tests, z), omega (tests, z), fits o)
 
 -- its effect is in place
 abbrev Written : Type 0
-Written = tie.After-change-row2 Inv-loop μ-loop
+Written = tie.After-change-rows Inv-loop μ-loop
 
 abbrev ruling : Written → Ruled
-ruling c = c .before .before .before .before .before .before .before .before .before .before .before .before
+ruling c = c .before .before .before .before .before .before .before .before .before .before .before
 
 abbrev placed : (c : Written) → Put (stateOf (ruling c)) (for (ruling c) .concerned .result) (ruling c .effect-at .result)
 placed c =
     record {
-      number = c .before .before .before .before .before .before .before .before .before .narrow .result;
-      word = c .before .before .before .before .before .before .send .result;
-      thread = c .before .before .before .before .before .before .before .before .with-server .result;
-      count = c .before .before .before .before .before .count-after .result;
+      number = c .before .before .before .before .before .before .before .before .narrow .result;
+      word = c .before .before .before .before .before .send .result;
+      thread = c .before .before .before .before .before .before .before .with-server .result;
+      count = c .before .before .before .before .count-after .result;
       dues = _;
       amounts = _;
       lists = _;
-      number-is = c .before .before .before .before .before .before .before .before .before .narrow .ensures;
-      word-is = c .before .before .before .before .before .before .send .ensures .1;
-      thread-is = c .before .before .before .before .before .before .before .before .with-server .ensures;
-      count-is = c .before .before .before .before .before .count-after .ensures;
-      dues-is = c .before .before .change-row .ensures;
-      amounts-is = c .change-row2 .ensures;
-      lists-is = c .before .before .before .before .before .before .send .ensures .0;
+      number-is = c .before .before .before .before .before .before .before .before .narrow .ensures;
+      word-is = c .before .before .before .before .before .send .ensures .1;
+      thread-is = c .before .before .before .before .before .before .before .with-server .ensures;
+      count-is = c .before .before .before .before .count-after .ensures;
+      dues-is = c .change-rows .ensures .0;
+      amounts-is = c .change-rows .ensures .1;
+      lists-is = c .before .before .before .before .before .send .ensures .0;
     }
 
 -- what is told before it
@@ -419,8 +419,8 @@ abbrev heard : (c : Written) → Read
 heard c = of (for (ruling c)) .before .before .before .before
 
 -- the word with the new count
-waits : (c : Written) → PendingWord (putState _ _ _ (placed c) .counts) (c .before .before .before .before .word-after .result)
-waits c = let k = for (ruling c) in c .before .before .before .before .word-after .ensures (turnOf (of k) .state .counts) (omega (tests, small k, turnOf (of k) .going .mid .sizes)) (named (heard c))
+waits : (c : Written) → PendingWord (putState _ _ _ (placed c) .counts) (c .before .before .before .word-after .result)
+waits c = let k = for (ruling c) in c .before .before .before .word-after .ensures (turnOf (of k) .state .counts) (omega (tests, small k, turnOf (of k) .going .mid .sizes)) (named (heard c))
 
 -- ---- after a limit
 
@@ -544,8 +544,7 @@ advance-spec =
     count-after-requires
     element-write-s
     word-after-requires
-    change-row-requires
-    change-row-requires-2
+    change-rows-requires
     tell-limit-requires
     mul-d
     element-copy-out-d

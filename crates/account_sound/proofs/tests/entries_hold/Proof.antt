@@ -8,18 +8,18 @@ use lib.Dec.{eqb}
 use native.Mathlib.Omega.{arith}
 use Rattle.base.specs.Tests.{all}
 use Rattle.base.proofs.TestLaws.{all-false, all-one}
-use Rattle.account.specs.Sound.{amountTests, dueTests}
+use Rattle.account.specs.Sound.{amountTests, dueTests, lastDue}
 use Rattle.account_sound.proofs.ScanLaws.{amount-step, amount-none, amount-over, amount-held, amount-end, due-step, due-early, due-late}
 use Rattle.account_sound.proofs.tests.entries_hold.Statement.{statement}
 use Rattle.account_sound.proofs.tests.entries_hold.Tie as tie
 
 -- from entry i on: what is left of the budget, and the last due
-record Held (budget own : ℕ) (amounts dues : List ℕ) (after base hi left last i : ℕ) : Type 0 where
+record Held (budget own : ℕ) (amounts dues : List ℕ) (after hi left last i : ℕ) : Type 0 where
   range : i ≤ length dues
   within : left ≤ budget
   sums : all (amountTests budget (budget - left) (drop i amounts)) ≡ all (amountTests budget own amounts)
-  begun : base ≤ last
-  times : all (dueTests last hi (drop i dues)) ≡ all (dueTests after hi dues)
+  begun : after ≤ last
+  times : all (dueTests (last + 1) hi (drop i dues)) ≡ all (dueTests (after + 1) hi dues)
 
 -- what is held and what is left of the budget
 left-of : (budget capacity used : ℕ) → capacity ≤ budget → used ≤ budget - capacity
@@ -35,46 +35,46 @@ left-over budget left x h k = omega arith
 held-over : (budget capacity used : ℕ) → capacity ≤ budget → budget - capacity < used → budget < capacity + used
 held-over budget capacity used h k = omega arith
 
-module _ {budget own : ℕ} {amounts dues : List ℕ} {after base hi left last i : ℕ} (h : Held budget own amounts dues after base hi left last i) where
+module _ {budget own : ℕ} {amounts dues : List ℕ} {after hi left last i : ℕ} (h : Held budget own amounts dues after hi left last i) where
   -- one of the two fails from entry i on
   amounts-fail : all (amountTests budget (budget - left) (drop i amounts)) ≡ false
-      → false ≡ all (all (amountTests budget own amounts) ∷ all (dueTests after hi dues) ∷ [])
+      → false ≡ all (all (amountTests budget own amounts) ∷ all (dueTests (after + 1) hi dues) ∷ [])
   amounts-fail e = sym (all-false _ 0 (sym (h .sums) ∙ e))
 
-  dues-fail : all (dueTests last hi (drop i dues)) ≡ false → false ≡ all (all (amountTests budget own amounts) ∷ all (dueTests after hi dues) ∷ [])
+  dues-fail : all (dueTests (last + 1) hi (drop i dues)) ≡ false → false ≡ all (all (amountTests budget own amounts) ∷ all (dueTests (after + 1) hi dues) ∷ [])
   dues-fail e = sym (all-false _ 1 (sym (h .times) ∙ e))
 
   -- one entry more
-  next : i < length amounts → i < length dues → 1 ≤ getD amounts i 0 → getD amounts i 0 ≤ left → last < getD dues i 0 → getD dues i 0 < hi
-      → Held budget own amounts dues after base hi (left - getD amounts i 0) (getD dues i 0) (i + 1)
+  next : i < length amounts → i < length dues → 1 ≤ getD amounts i 0 → getD amounts i 0 ≤ left → last < getD dues i 0 → getD dues i 0 ≤ hi
+      → Held budget own amounts dues after hi (left - getD amounts i 0) (getD dues i 0 - 1) (i + 1)
   next m n x l d u =
       let e = left-less budget left (getD amounts i 0) (h .within) l in
+      let f : getD dues i 0 - 1 + 1 ≡ getD dues i 0 = omega arith in
       record {
         range = omega arith;
         within = e .0;
         sums = ap (λ (k : ℕ). all (amountTests budget k (drop (i + 1) amounts))) (e .1) ∙ sym (amount-step i amounts m budget (budget - left) x) ∙ h .sums;
         begun = omega (arith, h .begun);
-        times = sym (due-step i dues n last hi d u) ∙ h .times;
+        times = ap (λ (k : ℕ). all (dueTests k hi (drop (i + 1) dues))) f ∙ sym (due-step i dues n (last + 1) hi (omega arith) u) ∙ h .times;
       }
 
   -- no entry is left
-  ends : length amounts ≤ i → length dues ≤ i → eqb left 0 ≡ all (all (amountTests budget own amounts) ∷ all (dueTests after hi dues) ∷ [])
+  ends : length amounts ≤ i → length dues ≤ i → eqb left 0 ≡ all (all (amountTests budget own amounts) ∷ all (dueTests (after + 1) hi dues) ∷ [])
   unfolding all
   ends m n =
       let a : eqb left 0 ≡ all (amountTests budget own amounts) =
       amount-end budget left (h .within)
       ∙ sym (ap (λ (ys : List ℕ). all (amountTests budget (budget - left) ys)) (drop-of-length-le amounts {i = i} m))
       ∙ h .sums in
-      let d : true ≡ all (dueTests after hi dues) =
-      sym (ap (λ (ys : List ℕ). all (dueTests last hi ys)) (drop-of-length-le dues {i = i} n)) ∙ h .times in
+      let d : true ≡ all (dueTests (after + 1) hi dues) =
+      sym (ap (λ (ys : List ℕ). all (dueTests (last + 1) hi ys)) (drop-of-length-le dues {i = i} n)) ∙ h .times in
       rw (← a, ← d) (sym (all-one (eqb left 0)))
 
 abbrev Inv-loop : tie.InvT-loop
-Inv-loop budget capacity used amounts dues after base period left₀ last₀ i₀ left last i =
-    Held budget (capacity + used) amounts dues after base (base + period) left last i
+Inv-loop budget capacity used amounts dues after left₀ last₀ i₀ left last i = Held budget (capacity + used) amounts dues after (lastDue after) left last i
 
 abbrev μ-loop : tie.MeasureT-loop
-μ-loop budget capacity used amounts dues after base period left₀ last₀ i₀ left last i = length dues - i
+μ-loop budget capacity used amounts dues after left₀ last₀ i₀ left last i = length dues - i
 
 returns : tie.Need-returns Inv-loop μ-loop
 returns c =
@@ -133,7 +133,7 @@ returns-5 : tie.Need-returns-5 Inv-loop μ-loop
 returns-5 c =
     let b = c .before .before .before .before .before .before in
     let a = b .before .before .before .args in
-    dues-fail (b .loop .inv) (due-early (b .loop .i) (a .dues .now) (omega arith) (b .loop .last) (a .base + a .period) (omega (arith, c .if5 .taken)))
+    dues-fail (b .loop .inv) (due-early (b .loop .i) (a .dues .now) (omega arith) (b .loop .last + 1) (lastDue (a .after)) (omega (arith, c .if5 .taken)))
 
 sub-if6 : tie.Need-sub-if6 Inv-loop μ-loop
 sub-if6 c = omega arith
@@ -142,7 +142,10 @@ returns-6 : tie.Need-returns-6 Inv-loop μ-loop
 returns-6 c =
     let b = c .before .before .before .before .before .before .before in
     let a = b .before .before .before .args in
-    dues-fail (b .loop .inv) (due-late (b .loop .i) (a .dues .now) (omega arith) (b .loop .last) (a .base + a .period) (omega (arith, c .if6 .taken)))
+    dues-fail (b .loop .inv) (due-late (b .loop .i) (a .dues .now) (omega arith) (b .loop .last + 1) (lastDue (a .after)) (omega (arith, c .if6 .taken)))
+
+sub-last : tie.Need-sub-last Inv-loop μ-loop
+sub-last c = omega arith
 
 loop-less : tie.Need-loop-less Inv-loop μ-loop
 loop-less c = omega arith
@@ -178,6 +181,7 @@ entries-hold-spec =
     returns-5
     sub-if6
     returns-6
+    sub-last
     loop-less
     loop-again
     returns-7)

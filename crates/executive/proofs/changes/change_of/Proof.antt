@@ -1,6 +1,7 @@
 -- `executive::changes::change_of` meets its contract.
 use borrow.Author.Needs.{needs}
 use mathlib.Core.Path.{ap, ap₂, _∙_}
+use native.Mathlib.Omega.{arith}
 use Rattle.account.specs.declared.Pending.{Pending}
 use Rattle.account.specs.declared.Account.{Account}
 use Rattle.thread.specs.declared.Thread.{Thread}
@@ -65,8 +66,13 @@ returns-3 c =
 renew-requires : tie.Need-renew-requires
 renew-requires c κs = search needs
 
-new-account-requires : tie.Need-new-account-requires
-new-account-requires c κs = search needs
+set-account-requires : tie.Need-set-account-requires
+set-account-requires c κs =
+    let x = c .before .before .before .before in
+    let y = x .before .before in
+    let z = y .before .before in
+    let pre = z .before .before .before .pre in
+    pre .2 (omega (arith, pre .0, x .if3 .left, y .if2 .left, z .if1 .left))
 
 change-to-requires-4 : tie.Need-change-to-requires-4
 change-to-requires-4 c κs = search needs
@@ -74,11 +80,13 @@ change-to-requires-4 c κs = search needs
 returns-4 : tie.Need-returns-4
 unfolding changeOf
 returns-4 c =
-    let b = c .before .before .before in
-    let d = b .before .before .before .before .before .before .before in
-    let a = d .before .args in
-    c .change-to4 .ensures ∙ ap₂ (becomes (a .t) (with-entries (a .t) (a .q))) (c .before .before .renew .ensures) (c .before .new-account .ensures)
-    ∙ change-last (a .e .kind) (a .e .time) (a .e .parameters) (a .t) (with-entries (a .t) (a .q)) (d .before .pre .0) (b .before .before .before .before .before .if1 .left) (b .before .before .before .if2 .left) (b .before .if3 .left)
+    let x = c .before .before .before .before .before .before in
+    let y = x .before .before in
+    let z = y .before .before in
+    let d = z .before .before .before in
+    let a = d .args in
+    c .change-to4 .ensures ∙ ap₂ (becomes (a .t) (with-entries (a .t) (a .q))) (c .before .before .before .before .renew .ensures) (c .before .set-account .ensures)
+    ∙ change-last (a .e .kind) (a .e .time) (a .e .parameters) (a .t) (with-entries (a .t) (a .q)) (d .pre .0) (z .if1 .left) (y .if2 .left) (x .if3 .left)
 
 pub change-of-spec : {M : Type 1} → statement M
 change-of-spec =
@@ -97,6 +105,6 @@ change-of-spec =
     change-to-requires-3
     returns-3
     renew-requires
-    new-account-requires
+    set-account-requires
     change-to-requires-4
     returns-4)

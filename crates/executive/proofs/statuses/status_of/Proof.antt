@@ -1,6 +1,7 @@
 -- `executive::statuses::status_of` meets its contract.
 use borrow.Author.Needs.{needs}
 use Prim.Native.Nat.{ℕ}
+use mathlib.Core.Bool.{false}
 use mathlib.Core.Path.{sym, ap, _∙_}
 use lib.Dec.{eqb}
 use Rattle.events.specs.Answers.{stateStatusOf}
@@ -24,7 +25,7 @@ returns-2 : tie.Need-returns-2
 returns-2 c =
     let a = c .before .before .before .before .args in
     c .state-status .ensures
-    ∙ ap (λ (p : ℕ). stateStatusOf (a .e .kind) (eqb p 0) (a .blocked)) (c .before .highest .ensures)
+    ∙ ap (λ (p : ℕ). stateStatusOf (a .e .kind) (eqb p 0) (a .blocked) false) (c .before .highest .ensures)
     ∙ sym (given-second _ _ (sym (c .before .before .before .early-status .ensures) ∙ c .before .before .if1 .left))
 
 pub status-of-spec : {M : Type 1} → statement M
