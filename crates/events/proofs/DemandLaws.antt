@@ -56,7 +56,7 @@ lawful =
       time-reading = λ t. refl;
       field-reading = λ s t. refl;
       state-reading = λ s t. refl;
-      effect-reading = λ s t. refl;
+      does-reading = λ s t. refl;
     }
 
 -- demand 3

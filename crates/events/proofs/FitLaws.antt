@@ -36,15 +36,15 @@ pub record Fits (start now : ℕ) (b : Bool) (t : Thread) (a : Account) : Type 0
   pub sound : ThreadSound start now now b (withServer (a .server) t) (a .pending)
 
 module _ (start now : ℕ) (b : Bool) (t : Thread) (q : Pending) (d : length (q .dues) ≡ 8) (m : length (q .amounts) ≡ 8) where
-  -- a block of a thread that stands in list p
-  pub block-fits : ThreadSound start now now b t q → isBlocked t ≡ false → (p : ℕ) → assigned t (q .count) ≡ p → 1 ≤ p
+  -- a block of a thread that stands in a list
+  pub block-fits : ThreadSound start now now b t q → isBlocked t ≡ false → (list : ℕ) → assigned t (q .count) ≡ list → 1 ≤ list
       → Fits start now b (withBlocked 1 t) (ifSporadic t (blocking now false (t .parameters) (record { server = t .server; pending = q }) .account) (record { server = t .server; pending = q }))
-  block-fits (absent n e f) w p a l = absurd (omega (arith, ap (λ (x : Thread). assigned x (q .count)) e))
-  block-fits (fifo n z h l v f) w p a g =
+  block-fits (absent n e f) w list a l = absurd (omega (arith, ap (λ (x : Thread). assigned x (q .count)) e))
+  block-fits (fifo n z h l v f) w list a g =
       subst⁻¹ (Fits start now b (withBlocked 1 t)) (by-zero (t .parameters .policy) _ _ _ z) (record { dues = d; amounts = m; sound = fifo n z (omega (tests, h)) l v f })
-  block-fits (rr n z h l v f) w p a g =
+  block-fits (rr n z h l v f) w list a g =
       subst⁻¹ (Fits start now b (withBlocked 1 t)) (by-one (t .parameters .policy) _ _ _ z) (record { dues = d; amounts = m; sound = rr n z (omega (tests, h)) l v f })
-  block-fits (sporadic n z h l v) w p a g =
+  block-fits (sporadic n z h l v) w list a g =
       let k = block-sound start now (t .parameters) now (record { server = t .server; pending = q })
       (runsUpper (isBlocked t) (t .parameters) (record { server = t .server; pending = q })) v (omega arith) (omega (tests, h)) (omega (tests, h))
       (λ u. upper-room (t .parameters) (record { server = t .server; pending = q }) (sym (cond-false (isBlocked t) false _ w) ∙ u) .1) in

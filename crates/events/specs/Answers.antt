@@ -68,5 +68,5 @@ executive =
       reading = reading;
       fieldStatus = fieldStatus;
       stateStatus = stateStatus;
-      effect = happened;
+      does = happened;
     }

@@ -8,7 +8,7 @@ use Rattle.ready.specs.Lists.{withThreads, without, occurs}
 use Rattle.ready.specs.Word.{wordOf, occupancy}
 use Rattle.ready.specs.Sound.{soundRow, soundRows, soundLists}
 use Rattle.entries.specs.Entries.{slotFor, inserted}
-use Rattle.passing.specs.Time.{run}
+use Rattle.passing.specs.Time.{byMoments}
 use Rattle.base.specs.Refusals.{firstRefusal}
 use Rattle.passing.specs.Sequence.{status, answer}
 use Rattle.passing.specs.Reports.{report}
@@ -26,10 +26,10 @@ use Rattle.events.specs.Reports.{RowsHold}
 
 -- the replay's seven events and the five rows
 pub table-holds : TableHolds
-unfolding lib.Count.leadingZeros all below fifoInRange rrInRange sporadicInRange inRange allZero scheduled limitEffect returnEffect soundAt withThreads without occurs wordOf occupancy soundRow soundRows soundLists run firstRefusal status answer withSlots presentTest absentTest soundState nextDue limits replenish replenishBelow fire changeOf happened fieldStatusOf stateStatusOf enteredBelow openStatus opening listOf slotFor inserted
+unfolding lib.Count.leadingZeros all below fifoInRange rrInRange sporadicInRange inRange allZero scheduled limitEffect returnEffect soundAt withThreads without occurs wordOf occupancy soundRow soundRows soundLists byMoments firstRefusal status answer withSlots presentTest absentTest soundState nextDue limits replenish replenishBelow fire changeOf happened fieldStatusOf stateStatusOf enteredBelow openStatus opening listOf slotFor inserted
 table-holds = refl
 
 -- what events tell
 pub rows-hold : RowsHold
-unfolding lib.Count.leadingZeros all below fifoInRange rrInRange sporadicInRange inRange allZero scheduled limitEffect returnEffect soundAt withThreads without occurs wordOf occupancy soundRow soundRows soundLists run firstRefusal status answer withSlots presentTest absentTest soundState nextDue limits replenish replenishBelow fire changeOf happened fieldStatusOf stateStatusOf enteredBelow openStatus opening report limitLog replenishLog belowLog numbersBelow slotFor inserted
+unfolding lib.Count.leadingZeros all below fifoInRange rrInRange sporadicInRange inRange allZero scheduled limitEffect returnEffect soundAt withThreads without occurs wordOf occupancy soundRow soundRows soundLists byMoments firstRefusal status answer withSlots presentTest absentTest soundState nextDue limits replenish replenishBelow fire changeOf happened fieldStatusOf stateStatusOf enteredBelow openStatus opening report limitLog replenishLog belowLog numbersBelow slotFor inserted
 rows-hold = refl

@@ -27,22 +27,22 @@ module _ (kind now : ℕ) (p : Parameters) (t : Thread) (a : Account) where
 
 -- the lists after a thread has left one and joined another
 module _ (k : ℕ) (l : List ℕ) where
-  pub shift-none : (p q : ℕ) → p ≡ 0 → q ≡ 0 → l ≡ shifted k p q l
+  pub shift-none : (from to : ℕ) → from ≡ 0 → to ≡ 0 → l ≡ shifted k from to l
   shift-none zero zero e f = refl
-  shift-none zero (suc q) e f = absurd (omega arith)
-  shift-none (suc p) q e f = absurd (omega arith)
+  shift-none zero (suc to) e f = absurd (omega arith)
+  shift-none (suc from) to e f = absurd (omega arith)
 
-  pub shift-joins : (p q : ℕ) → p ≡ 0 → (q ≡ 0 → ⊥) → appended q k l ≡ shifted k p q l
+  pub shift-joins : (from to : ℕ) → from ≡ 0 → (to ≡ 0 → ⊥) → appended to k l ≡ shifted k from to l
   shift-joins zero zero e f = absurd (f refl)
-  shift-joins zero (suc q) e f = refl
-  shift-joins (suc p) q e f = absurd (omega arith)
+  shift-joins zero (suc to) e f = refl
+  shift-joins (suc from) to e f = absurd (omega arith)
 
-  pub shift-leaves : (p q : ℕ) → (p ≡ 0 → ⊥) → q ≡ 0 → removed p k l ≡ shifted k p q l
-  shift-leaves zero q e f = absurd (e refl)
-  shift-leaves (suc p) zero e f = refl
-  shift-leaves (suc p) (suc q) e f = absurd (omega arith)
+  pub shift-leaves : (from to : ℕ) → (from ≡ 0 → ⊥) → to ≡ 0 → removed from k l ≡ shifted k from to l
+  shift-leaves zero to e f = absurd (e refl)
+  shift-leaves (suc from) zero e f = refl
+  shift-leaves (suc from) (suc to) e f = absurd (omega arith)
 
-  pub shift-moves : (p q : ℕ) → (p ≡ 0 → ⊥) → (q ≡ 0 → ⊥) → moved k p q l ≡ shifted k p q l
-  shift-moves zero q e f = absurd (e refl)
-  shift-moves (suc p) zero e f = absurd (f refl)
-  shift-moves (suc p) (suc q) e f = refl
+  pub shift-moves : (from to : ℕ) → (from ≡ 0 → ⊥) → (to ≡ 0 → ⊥) → moved k from to l ≡ shifted k from to l
+  shift-moves zero to e f = absurd (e refl)
+  shift-moves (suc from) zero e f = absurd (f refl)
+  shift-moves (suc from) (suc to) e f = refl

@@ -14,7 +14,7 @@ use Rattle.sporadic.specs.Rules.{charged}
 use Rattle.account.specs.declared.Pending.{Pending}
 use Rattle.account.specs.Account.{isUpper}
 use Rattle.account_laws.proofs.SoundLaws.{AccountSound, made, charge-sound, upper-room}
-use Rattle.passing.specs.Time.{Clock, dueBy, chargeTo, moment, run}
+use Rattle.passing.specs.Time.{Clock, dueBy, chargeTo, moment, byMoments}
 use Rattle.passing.specs.Reports.{Reported, reporting, reportedTo}
 use Rattle.passing.proofs.TimeLaws.{due-true, due-false}
 use Rattle.passing.proofs.ReportLaws.{reporting-state}
@@ -195,24 +195,24 @@ module _ (G : Property) (L : StepRules G) where
         (append-assoc pre (stepsOf i (u .report)) (stepsOf i c) ∙ ap (λ (zs : List Step). pre ++ zs) (sym (steps-more i (u .report) c)))
         (moment-seen i l (u .state) h (pre ++ stepsOf i (u .report)) q p (omega arith)))
 
-    run-seen : (k : ℕ) (u : Reported State Log) → Sound (u .state) → u .state .now ≤ t → t - u .state .now ≤ k → SeenAt u → SeenAt (run D k u t)
-    unfolding run
-    run-seen zero u h n f q = rest-seen u h q (λ p. omega (arith, later (u .state) h p))
-    run-seen (suc k) u h n f q =
+    moments-seen : (k : ℕ) (u : Reported State Log) → Sound (u .state) → u .state .now ≤ t → t - u .state .now ≤ k → SeenAt u → SeenAt (byMoments D k u t)
+    unfolding byMoments
+    moments-seen zero u h n f q = rest-seen u h q (λ p. omega (arith, later (u .state) h p))
+    moments-seen (suc k) u h n f q =
         choose (dueBy (next (u .state)) t) refl
         (λ e.
         let d = due-true (next (u .state)) t e in
         let a = later (u .state) h (d .0) in
         let m = state-out (moment clock (u .state)) (passing .sound-moment (u .state) (state-in (u .state) h) (d .0) (omega arith)) in
         let o : moment clock (u .state) .now ≡ next (u .state) = passing .now-fire _ ∙ omega arith in
-        run-seen k (moment D u) m (omega (arith, o)) (omega (arith, o)) (step-seen u h q (d .0) (d .1)))
+        moments-seen k (moment D u) m (omega (arith, o)) (omega (arith, o)) (step-seen u h q (d .0) (d .1)))
       where
-        choose : (b : Bool) → dueBy (next (u .state)) t ≡ b → (dueBy (next (u .state)) t ≡ true → SeenAt (run D k (moment D u) t))
-            → SeenAt (cond b (run D k (moment D u) t) (chargeTo D u t))
+        choose : (b : Bool) → dueBy (next (u .state)) t ≡ b → (dueBy (next (u .state)) t ≡ true → SeenAt (byMoments D k (moment D u) t))
+            → SeenAt (cond b (byMoments D k (moment D u) t) (chargeTo D u t))
         choose true e r = r e
         choose false e r = rest-seen u h q (λ p. omega (arith, due-false (next (u .state)) t e p))
 
     pub passed-seen : (s : State) → Sound s → s .now ≤ t → Seen G i s pre → Seen G i (passed s t) (pre ++ stepsOf i (reportedTo clock logs s t))
     passed-seen s h n q =
         subst (λ (x : State). Seen G i x (pre ++ stepsOf i (reportedTo clock logs s t))) (reporting-state clock logs (record { state = s; report = [] }) t)
-        (run-seen (t - s .now) (record { state = s; report = [] }) h n (omega arith) (rw (append-nil pre) q))
+        (moments-seen (t - s .now) (record { state = s; report = [] }) h n (omega arith) (rw (append-nil pre) q))

@@ -10,7 +10,7 @@ use Rattle.account.specs.Sound.{soundAt}
 use Rattle.ready.specs.Lists.{withThreads, without, occurs}
 use Rattle.ready.specs.Word.{wordOf, occupancy}
 use Rattle.ready.specs.Sound.{soundRow, soundRows, soundLists}
-use Rattle.passing.specs.Time.{run}
+use Rattle.passing.specs.Time.{byMoments}
 use Rattle.base.specs.Refusals.{firstRefusal}
 use Rattle.passing.specs.Sequence.{status, answer}
 use Rattle.passing.specs.Reports.{report}
@@ -26,22 +26,22 @@ use Rattle.history.specs.History.{Replayed, RanLow, SetTwice}
 use Rattle.history.specs.Bound.{Reached, MostIn}
 
 pub replayed : Replayed
-unfolding lib.Count.leadingZeros all below fifoInRange rrInRange sporadicInRange inRange allZero scheduled limitEffect returnEffect soundAt withThreads without occurs wordOf occupancy soundRow soundRows soundLists run firstRefusal status answer withSlots presentTest absentTest soundState nextDue limits replenish replenishBelow fire changeOf happened fieldStatusOf stateStatusOf enteredBelow openStatus opening report limitLog replenishLog belowLog slotFor inserted
+unfolding lib.Count.leadingZeros all below fifoInRange rrInRange sporadicInRange inRange allZero scheduled limitEffect returnEffect soundAt withThreads without occurs wordOf occupancy soundRow soundRows soundLists byMoments firstRefusal status answer withSlots presentTest absentTest soundState nextDue limits replenish replenishBelow fire changeOf happened fieldStatusOf stateStatusOf enteredBelow openStatus opening report limitLog replenishLog belowLog slotFor inserted
 replayed = record { ran = refl; budget = refl; capacity = refl; returned = refl; returns = refl }
 
 pub ran-low : RanLow
-unfolding lib.Count.leadingZeros all below fifoInRange rrInRange sporadicInRange inRange allZero scheduled limitEffect returnEffect soundAt withThreads without occurs wordOf occupancy soundRow soundRows soundLists run firstRefusal status answer withSlots presentTest absentTest soundState nextDue limits replenish replenishBelow fire changeOf happened fieldStatusOf stateStatusOf enteredBelow openStatus opening report limitLog replenishLog belowLog slotFor inserted
+unfolding lib.Count.leadingZeros all below fifoInRange rrInRange sporadicInRange inRange allZero scheduled limitEffect returnEffect soundAt withThreads without occurs wordOf occupancy soundRow soundRows soundLists byMoments firstRefusal status answer withSlots presentTest absentTest soundState nextDue limits replenish replenishBelow fire changeOf happened fieldStatusOf stateStatusOf enteredBelow openStatus opening report limitLog replenishLog belowLog slotFor inserted
 ran-low = record { total = refl; ran = refl; capacity = refl; returned = refl }
 
 pub set-twice : SetTwice
-unfolding lib.Count.leadingZeros all below fifoInRange rrInRange sporadicInRange inRange allZero scheduled limitEffect returnEffect soundAt withThreads without occurs wordOf occupancy soundRow soundRows soundLists run firstRefusal status answer withSlots presentTest absentTest soundState nextDue limits replenish replenishBelow fire changeOf happened fieldStatusOf stateStatusOf enteredBelow openStatus opening report limitLog replenishLog belowLog slotFor inserted cantCarry carriedServer carried
+unfolding lib.Count.leadingZeros all below fifoInRange rrInRange sporadicInRange inRange allZero scheduled limitEffect returnEffect soundAt withThreads without occurs wordOf occupancy soundRow soundRows soundLists byMoments firstRefusal status answer withSlots presentTest absentTest soundState nextDue limits replenish replenishBelow fire changeOf happened fieldStatusOf stateStatusOf enteredBelow openStatus opening report limitLog replenishLog belowLog slotFor inserted cantCarry carriedServer carried
 set-twice = record { dues = refl; amounts = refl; ran = refl; budget = refl; capacity = refl; returned = refl; returns = refl }
 
 -- the bound is reached
 pub reached : Reached
-unfolding lib.Count.leadingZeros all below fifoInRange rrInRange sporadicInRange inRange allZero scheduled limitEffect returnEffect soundAt withThreads without occurs wordOf occupancy soundRow soundRows soundLists run firstRefusal status answer withSlots presentTest absentTest soundState nextDue limits replenish replenishBelow fire changeOf happened fieldStatusOf stateStatusOf enteredBelow openStatus opening report limitLog replenishLog belowLog slotFor inserted
+unfolding lib.Count.leadingZeros all below fifoInRange rrInRange sporadicInRange inRange allZero scheduled limitEffect returnEffect soundAt withThreads without occurs wordOf occupancy soundRow soundRows soundLists byMoments firstRefusal status answer withSlots presentTest absentTest soundState nextDue limits replenish replenishBelow fire changeOf happened fieldStatusOf stateStatusOf enteredBelow openStatus opening report limitLog replenishLog belowLog slotFor inserted
 reached = refl
 
 pub most-in : MostIn
-unfolding lib.Count.leadingZeros all below fifoInRange rrInRange sporadicInRange inRange allZero scheduled limitEffect returnEffect soundAt withThreads without occurs wordOf occupancy soundRow soundRows soundLists run firstRefusal status answer withSlots presentTest absentTest soundState nextDue limits replenish replenishBelow fire changeOf happened fieldStatusOf stateStatusOf enteredBelow openStatus opening report limitLog replenishLog belowLog slotFor inserted
+unfolding lib.Count.leadingZeros all below fifoInRange rrInRange sporadicInRange inRange allZero scheduled limitEffect returnEffect soundAt withThreads without occurs wordOf occupancy soundRow soundRows soundLists byMoments firstRefusal status answer withSlots presentTest absentTest soundState nextDue limits replenish replenishBelow fire changeOf happened fieldStatusOf stateStatusOf enteredBelow openStatus opening report limitLog replenishLog belowLog slotFor inserted
 most-in = refl

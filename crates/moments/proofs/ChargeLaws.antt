@@ -46,9 +46,9 @@ pub record Runs (s : State) : Type 0 where
   pub stands : assigned (threadAt s (head s)) (getD (s .counts) (head s) 0) ≡ level s
   pub range : (1 ≤ level s) × (level s ≤ 32)
 
-placed : (b : Bool) (a p : ℕ) → 0 < p → cond b 0 a ≡ p → (b ≡ false) × (a ≡ p)
-placed true a p l e = absurd (omega arith)
-placed false a p l e = (refl, e)
+placed : (b : Bool) (a list : ℕ) → 0 < list → cond b 0 a ≡ list → (b ≡ false) × (a ≡ list)
+placed true a list l e = absurd (omega arith)
+placed false a list l e = (refl, e)
 
 pub no-word : (w : ℕ) → w ≡ 0 → highestOf w ≡ 0
 unfolding lib.Count.leadingZeros
@@ -77,14 +77,14 @@ ran-server (suc zero) b i j v = refl
 ran-server (suc (suc c)) true i j v = account.charge-add i j v
 ran-server (suc (suc c)) false i j v = refl
 
-ran-twice : (p i j : ℕ) (t : Thread) → ran p j (ran p i t) ≡ ran p (i + j) t
-ran-twice p i j t =
+ran-twice : (list i j : ℕ) (t : Thread) → ran list j (ran list i t) ≡ ran list (i + j) t
+ran-twice list i j t =
     λ x. record {
       parameters = t .parameters;
       blocked = t .blocked;
       total = q x;
       left = ran-left (t .parameters .policy) (t .left) i j x;
-      server = ran-server (t .parameters .policy) (eqb p (t .parameters .priority)) i j (t .server) x;
+      server = ran-server (t .parameters .policy) (eqb list (t .parameters .priority)) i j (t .server) x;
     }
   where
     q : t .total + i + j ≡ t .total + (i + j)
@@ -118,27 +118,29 @@ charge-add lo i j s h =
 -- ---- the limit and the dues of a sound state are after now
 
 -- a sporadic thread that stands in the list of its priority has capacity and room
-pub upper-at : (p : ℕ) (t : Thread) (q : Pending) → t .parameters .policy ≡ 2 → t .parameters .low < t .parameters .priority → assigned t (q .count) ≡ p
-    → eqb p (t .parameters .priority) ≡ true → isUpper (t .parameters) (record { server = t .server; pending = q }) ≡ true
-upper-at p t q z l a e = go (isUpper (t .parameters) (record { server = t .server; pending = q })) refl
+pub upper-at : (list : ℕ) (t : Thread) (q : Pending) → t .parameters .policy ≡ 2 → t .parameters .low < t .parameters .priority → assigned t (q .count) ≡ list
+    → eqb list (t .parameters .priority) ≡ true → isUpper (t .parameters) (record { server = t .server; pending = q }) ≡ true
+upper-at list t q z l a e = go (isUpper (t .parameters) (record { server = t .server; pending = q })) refl
   where
     go : (b : Bool) → isUpper (t .parameters) (record { server = t .server; pending = q }) ≡ b → b ≡ true
     go true f = refl
     go false f =
         let x = sym (by-two (t .parameters .policy) _ _ _ z) ∙ a in
-        absurd (omega (arith, sym (cond-false _ (t .parameters .priority) (t .parameters .low) f) ∙ x, eqb-true p (t .parameters .priority) e))
+        absurd (omega (arith, sym (cond-false _ (t .parameters .priority) (t .parameters .low) f) ∙ x, eqb-true list (t .parameters .priority) e))
 
 -- what a running thread runs on is not used up
-pub lasts : (start now lo p : ℕ) (b : Bool) (t : Thread) (q : Pending) → ThreadSound start now lo b t q → assigned t (q .count) ≡ p
-    → 0 < byPolicy (t .parameters .policy) 1 (t .left) (cond (eqb p (t .parameters .priority)) (t .server .capacity) 1)
-lasts start now lo p b t q (absent n e f) a = let z : t .parameters .policy ≡ 0 = ap (λ (t : Thread). t .parameters .policy) e in rw (by-zero (t .parameters .policy) 1 (t .left) (cond (eqb p (t .parameters .priority)) (t .server .capacity) 1) z) (omega arith)
-lasts start now lo p b t q (fifo n z h l v f) a = rw (by-zero (t .parameters .policy) 1 (t .left) (cond (eqb p (t .parameters .priority)) (t .server .capacity) 1) z) (omega arith)
-lasts start now lo p b t q (rr n z h l v f) a = rw (by-one (t .parameters .policy) 1 (t .left) (cond (eqb p (t .parameters .priority)) (t .server .capacity) 1) z) (omega (tests, l))
-lasts start now lo p b t q (sporadic n z h l v) a =
-    rw (by-two (t .parameters .policy) 1 (t .left) (cond (eqb p (t .parameters .priority)) (t .server .capacity) 1) z) (go (eqb p (t .parameters .priority)) refl)
+pub lasts : (start now lo list : ℕ) (b : Bool) (t : Thread) (q : Pending) → ThreadSound start now lo b t q → assigned t (q .count) ≡ list
+    → 0 < byPolicy (t .parameters .policy) 1 (t .left) (cond (eqb list (t .parameters .priority)) (t .server .capacity) 1)
+lasts start now lo list b t q (absent n e f) a =
+    let z : t .parameters .policy ≡ 0 = ap (λ (t : Thread). t .parameters .policy) e in
+    rw (by-zero (t .parameters .policy) 1 (t .left) (cond (eqb list (t .parameters .priority)) (t .server .capacity) 1) z) (omega arith)
+lasts start now lo list b t q (fifo n z h l v f) a = rw (by-zero (t .parameters .policy) 1 (t .left) (cond (eqb list (t .parameters .priority)) (t .server .capacity) 1) z) (omega arith)
+lasts start now lo list b t q (rr n z h l v f) a = rw (by-one (t .parameters .policy) 1 (t .left) (cond (eqb list (t .parameters .priority)) (t .server .capacity) 1) z) (omega (tests, l))
+lasts start now lo list b t q (sporadic n z h l v) a =
+    rw (by-two (t .parameters .policy) 1 (t .left) (cond (eqb list (t .parameters .priority)) (t .server .capacity) 1) z) (go (eqb list (t .parameters .priority)) refl)
   where
-    go : (c : Bool) → eqb p (t .parameters .priority) ≡ c → 0 < cond c (t .server .capacity) 1
-    go true e = upper-room (t .parameters) (record { server = t .server; pending = q }) (upper-at p t q z (omega (tests, h)) a e) .0
+    go : (c : Bool) → eqb list (t .parameters .priority) ≡ c → 0 < cond c (t .server .capacity) 1
+    go true e = upper-room (t .parameters) (record { server = t .server; pending = q }) (upper-at list t q z (omega (tests, h)) a e) .0
     go false e = omega arith
 
 limit-ran : (c : ℕ) (b : Bool) (now k left cap : ℕ) → 0 < byPolicy c 1 left (cond b cap 1)
@@ -297,41 +299,41 @@ wait-thread start now now′ lo lo′ b t q (sporadic n z h a v) l d =
     (runsUpper (isBlocked t) (t .parameters) (record { server = t .server; pending = q })) v l (first-bound q lo′ d))
 
 -- ticks that do not use up what the thread runs on
-pub record Within (p k : ℕ) (t : Thread) : Type 0 where
+pub record Within (list k : ℕ) (t : Thread) : Type 0 where
   pub quantum : t .parameters .policy ≡ 1 → k < t .left
-  pub capacity : t .parameters .policy ≡ 2 → eqb p (t .parameters .priority) ≡ true → k < t .server .capacity
+  pub capacity : t .parameters .policy ≡ 2 → eqb list (t .parameters .priority) ≡ true → k < t .server .capacity
 
--- its server after so many ticks in list p
-pub ran-upper : (p k : ℕ) (t : Thread) → t .parameters .policy ≡ 2 → eqb p (t .parameters .priority) ≡ true → ran p k t .server ≡ charged k (t .server)
-ran-upper p k t z e = by-two (t .parameters .policy) (t .server) (t .server) _ z ∙ cond-true (eqb p (t .parameters .priority)) _ _ e
+-- its server after so many ticks in a list
+pub ran-upper : (list k : ℕ) (t : Thread) → t .parameters .policy ≡ 2 → eqb list (t .parameters .priority) ≡ true → ran list k t .server ≡ charged k (t .server)
+ran-upper list k t z e = by-two (t .parameters .policy) (t .server) (t .server) _ z ∙ cond-true (eqb list (t .parameters .priority)) _ _ e
 
-pub ran-low : (p k : ℕ) (t : Thread) → t .parameters .policy ≡ 2 → eqb p (t .parameters .priority) ≡ false → ran p k t .server ≡ t .server
-ran-low p k t z e = by-two (t .parameters .policy) (t .server) (t .server) _ z ∙ cond-false (eqb p (t .parameters .priority)) _ _ e
+pub ran-low : (list k : ℕ) (t : Thread) → t .parameters .policy ≡ 2 → eqb list (t .parameters .priority) ≡ false → ran list k t .server ≡ t .server
+ran-low list k t z e = by-two (t .parameters .policy) (t .server) (t .server) _ z ∙ cond-false (eqb list (t .parameters .priority)) _ _ e
 
 upper-ran : (k : ℕ) (p : Parameters) (v : Server) (q : Pending) → k < v .capacity
     → isUpper p (record { server = charged k v; pending = q }) ≡ isUpper p (record { server = v; pending = q })
 upper-ran k p v q l = rw (lt-ltb 0 (v .capacity - k) (omega arith), lt-ltb 0 (v .capacity) (omega arith))
 
 -- the running thread
-run-thread : (start now lo lo′ k p : ℕ) (b : Bool) (t : Thread) (q : Pending) → ThreadSound start now lo b t q → isBlocked t ≡ false → assigned t (q .count) ≡ p → 1 ≤ p
-    → (0 < q .count → lo′ < getD (q .dues) 0 0) → Within p k t → ThreadSound start (now + k) lo′ b (ran p k t) q
-run-thread start now lo lo′ k p b t q (absent n e f) w a g d m = absurd (omega (arith, ap (λ (x : Thread). assigned x (q .count)) e))
-run-thread start now lo lo′ k p b t q (fifo n z h l v f) w a g d m = fifo n z h (by-zero (t .parameters .policy) _ _ _ z ∙ l) (by-zero (t .parameters .policy) _ _ _ z ∙ v) f
-run-thread start now lo lo′ k p b t q (rr n z h l v f) w a g d m =
+run-thread : (start now lo lo′ k list : ℕ) (b : Bool) (t : Thread) (q : Pending) → ThreadSound start now lo b t q → isBlocked t ≡ false → assigned t (q .count) ≡ list → 1 ≤ list
+    → (0 < q .count → lo′ < getD (q .dues) 0 0) → Within list k t → ThreadSound start (now + k) lo′ b (ran list k t) q
+run-thread start now lo lo′ k list b t q (absent n e f) w a g d m = absurd (omega (arith, ap (λ (x : Thread). assigned x (q .count)) e))
+run-thread start now lo lo′ k list b t q (fifo n z h l v f) w a g d m = fifo n z h (by-zero (t .parameters .policy) _ _ _ z ∙ l) (by-zero (t .parameters .policy) _ _ _ z ∙ v) f
+run-thread start now lo lo′ k list b t q (rr n z h l v f) w a g d m =
     rr n z h (subst⁻¹ (λ (y : ℕ). All (leb 1 y ∷ leb y (t .parameters .budget) ∷ [])) (by-one (t .parameters .policy) (t .left) (t .left - k) (t .left) z) (omega (tests, l, m .quantum z)))
     (by-one (t .parameters .policy) _ _ _ z ∙ v) f
-run-thread start now lo lo′ k p b t q (sporadic n z h l v) w a g d m = go (eqb p (t .parameters .priority)) refl
+run-thread start now lo lo′ k list b t q (sporadic n z h l v) w a g d m = go (eqb list (t .parameters .priority)) refl
   where
-    go : (c : Bool) → eqb p (t .parameters .priority) ≡ c → ThreadSound start (now + k) lo′ b (ran p k t) q
+    go : (c : Bool) → eqb list (t .parameters .priority) ≡ c → ThreadSound start (now + k) lo′ b (ran list k t) q
     go true e =
-        let u = upper-at p t q z (omega (tests, h)) a e in
+        let u = upper-at list t q z (omega (tests, h)) a e in
         let c = m .capacity z e in
         let y : AccountSound start now lo true (t .parameters) (record { server = t .server; pending = q }) =
         subst (λ (x : Bool). AccountSound start now lo x (t .parameters) (record { server = t .server; pending = q })) (cond-false (isBlocked t) false _ w ∙ u) v in
         sporadic n z h (by-two (t .parameters .policy) _ _ _ z ∙ l)
         (subst⁻¹
         (λ (x : Server). AccountSound start (now + k) lo′ (runsUpper (isBlocked t) (t .parameters) (record { server = x; pending = q })) (t .parameters) (record { server = x; pending = q }))
-        (ran-upper p k t z e)
+        (ran-upper list k t z e)
         (subst⁻¹ (λ (x : Bool). AccountSound start (now + k) lo′ x (t .parameters) (record { server = charged k (t .server); pending = q }))
         (cond-false (isBlocked t) false _ w ∙ upper-ran k (t .parameters) (t .server) q c ∙ u)
         (charge-sound start now lo (t .parameters) (record { server = t .server; pending = q }) k lo′ y (omega arith) (first-bound q lo′ d))))
@@ -339,14 +341,14 @@ run-thread start now lo lo′ k p b t q (sporadic n z h l v) w a g d m = go (eqb
         sporadic n z h (by-two (t .parameters .policy) _ _ _ z ∙ l)
         (subst⁻¹
         (λ (x : Server). AccountSound start (now + k) lo′ (runsUpper (isBlocked t) (t .parameters) (record { server = x; pending = q })) (t .parameters) (record { server = x; pending = q }))
-        (ran-low p k t z e)
+        (ran-low list k t z e)
         (time-passes start now lo (t .parameters) (record { server = t .server; pending = q }) (now + k) lo′
         (runsUpper (isBlocked t) (t .parameters) (record { server = t .server; pending = q })) v (omega arith) (first-bound q lo′ d)))
 
 -- ticks within the limits leave the assigned priority
-assigned-ran : (start now lo p k : ℕ) (b : Bool) (t : Thread) (q : Pending) → ThreadSound start now lo b t q → Within p k t
-    → assigned (ran p k t) (q .count) ≡ assigned t (q .count)
-assigned-ran start now lo p k b t q x m = go x
+assigned-ran : (start now lo list k : ℕ) (b : Bool) (t : Thread) (q : Pending) → ThreadSound start now lo b t q → Within list k t
+    → assigned (ran list k t) (q .count) ≡ assigned t (q .count)
+assigned-ran start now lo list k b t q x m = go x
   where
     keep : (v : Server) → atUpper (t .parameters) (v .capacity) (q .count) ≡ atUpper (t .parameters) (t .server .capacity) (q .count)
         → byPolicy (t .parameters .policy) (t .parameters .priority) (t .parameters .priority)
@@ -354,20 +356,20 @@ assigned-ran start now lo p k b t q x m = go x
     keep v e =
         ap (λ (u : Bool). byPolicy (t .parameters .policy) (t .parameters .priority) (t .parameters .priority) (cond u (t .parameters .priority) (t .parameters .low))) e
 
-    same : ran p k t .server ≡ t .server → assigned (ran p k t) (q .count) ≡ assigned t (q .count)
-    same e = keep (ran p k t .server) (ap (λ (v : Server). atUpper (t .parameters) (v .capacity) (q .count)) e)
+    same : ran list k t .server ≡ t .server → assigned (ran list k t) (q .count) ≡ assigned t (q .count)
+    same e = keep (ran list k t .server) (ap (λ (v : Server). atUpper (t .parameters) (v .capacity) (q .count)) e)
 
-    go : ThreadSound start now lo b t q → assigned (ran p k t) (q .count) ≡ assigned t (q .count)
+    go : ThreadSound start now lo b t q → assigned (ran list k t) (q .count) ≡ assigned t (q .count)
     go (absent n e f) = same (by-zero (t .parameters .policy) _ _ _ (ap (λ (x : Thread). x .parameters .policy) e))
     go (fifo n z h l v f) = same (by-zero (t .parameters .policy) _ _ _ z)
     go (rr n z h l v f) = same (by-one (t .parameters .policy) _ _ _ z)
-    go (sporadic n z h l v) = at (eqb p (t .parameters .priority)) refl
+    go (sporadic n z h l v) = at (eqb list (t .parameters .priority)) refl
       where
-        at : (c : Bool) → eqb p (t .parameters .priority) ≡ c → assigned (ran p k t) (q .count) ≡ assigned t (q .count)
+        at : (c : Bool) → eqb list (t .parameters .priority) ≡ c → assigned (ran list k t) (q .count) ≡ assigned t (q .count)
         at true e =
-            keep (ran p k t .server)
-            (ap (λ (v : Server). atUpper (t .parameters) (v .capacity) (q .count)) (ran-upper p k t z e) ∙ upper-ran k (t .parameters) (t .server) q (m .capacity z e))
-        at false e = same (ran-low p k t z e)
+            keep (ran list k t .server)
+            (ap (λ (v : Server). atUpper (t .parameters) (v .capacity) (q .count)) (ran-upper list k t z e) ∙ upper-ran k (t .parameters) (t .server) q (m .capacity z e))
+        at false e = same (ran-low list k t z e)
 
 -- a sound state after k ticks: dues are after lo′, and nothing was used up
 pub charged-sound : (lo lo′ : ℕ → ℕ) (k : ℕ) (s : State) → SoundFrom lo s → ((i : ℕ) → i < 32 → 0 < getD (s .counts) i 0 → lo′ i < getD (slotsAt i (s .dues)) 0 0)

@@ -56,28 +56,29 @@ and-no false b f = refl
 low-lt : (p : Parameters) (blocked : ℕ) → All (SporadicTests p blocked) → p .low < p .priority
 low-lt p blocked g = omega (tests, g)
 
-no-limit : (p : ℕ) (t : Thread) (q : Pending) → t .parameters .policy ≡ 2 → All (SporadicTests (t .parameters) (t .blocked)) → assigned t (q .count) ≡ p
-    → (eqb p (t .parameters .priority) && eqb (t .server .capacity) 0) ≡ false
-no-limit p t q z g a =
-    and-no (eqb p (t .parameters .priority)) (eqb (t .server .capacity) 0)
-    (λ e. ne-eqb (t .server .capacity) 0 (λ c. omega (arith, upper-room (t .parameters) (record { server = t .server; pending = q }) (upper-at p t q z (low-lt (t .parameters) (t .blocked) g) a e) .0)))
+no-limit : (list : ℕ) (t : Thread) (q : Pending) → t .parameters .policy ≡ 2 → All (SporadicTests (t .parameters) (t .blocked)) → assigned t (q .count) ≡ list
+    → (eqb list (t .parameters .priority) && eqb (t .server .capacity) 0) ≡ false
+no-limit list t q z g a =
+    and-no (eqb list (t .parameters .priority)) (eqb (t .server .capacity) 0)
+    (λ e. ne-eqb (t .server .capacity) 0 (λ c.
+    omega (arith, upper-room (t .parameters) (record { server = t .server; pending = q }) (upper-at list t q z (low-lt (t .parameters) (t .blocked) g) a e) .0)))
 
--- what is chosen at a moment for the running thread t in list p: x where nothing happens to it, y at the end of its quantum, z at its limit
+-- what is chosen at a moment for the running thread t in its list: x where nothing happens to it, y at the end of its quantum, z at its limit
 abbrev pub chosenFor : {A : Type 0} → A → A → A → ℕ → Thread → A
-chosenFor x y z p t = byPolicy (t .parameters .policy) x (cond (eqb (t .left) 0) y x) (cond (eqb p (t .parameters .priority) && eqb (t .server .capacity) 0) z x)
+chosenFor x y z list t = byPolicy (t .parameters .policy) x (cond (eqb (t .left) 0) y x) (cond (eqb list (t .parameters .priority) && eqb (t .server .capacity) 0) z x)
 
 abbrev pub chosen : {A : Type 0} → A → A → A → State → A
 chosen x y z s = cond (idles s) x (chosenFor x y z (level s) (threadAt s (head s)))
 
 module _ {A : Type 0} (x y z : A) where
   -- a sound thread in the list of its assigned priority is at no limit
-  thread-none : (start now lo p : ℕ) (b : Bool) (t : Thread) (q : Pending) → ThreadSound start now lo b t q → assigned t (q .count) ≡ p → chosenFor x y z p t ≡ x
-  thread-none start now lo p b t q (absent n e f) a = by-zero (t .parameters .policy) _ _ _ (ap (λ (x : Thread). x .parameters .policy) e)
-  thread-none start now lo p b t q (fifo n c g l v f) a = by-zero (t .parameters .policy) _ _ _ c
-  thread-none start now lo p b t q (rr n c g l v f) a =
+  thread-none : (start now lo list : ℕ) (b : Bool) (t : Thread) (q : Pending) → ThreadSound start now lo b t q → assigned t (q .count) ≡ list → chosenFor x y z list t ≡ x
+  thread-none start now lo list b t q (absent n e f) a = by-zero (t .parameters .policy) _ _ _ (ap (λ (x : Thread). x .parameters .policy) e)
+  thread-none start now lo list b t q (fifo n c g l v f) a = by-zero (t .parameters .policy) _ _ _ c
+  thread-none start now lo list b t q (rr n c g l v f) a =
       by-one (t .parameters .policy) _ _ _ c ∙ cond-false (eqb (t .left) 0) _ _ (ne-eqb (t .left) 0 (λ e. omega (tests, l)))
-  thread-none start now lo p b t q (sporadic n c g l v) a =
-      by-two (t .parameters .policy) _ _ _ c ∙ cond-false (eqb p (t .parameters .priority) && eqb (t .server .capacity) 0) _ _ (no-limit p t q c g a)
+  thread-none start now lo list b t q (sporadic n c g l v) a =
+      by-two (t .parameters .policy) _ _ _ c ∙ cond-false (eqb list (t .parameters .priority) && eqb (t .server .capacity) 0) _ _ (no-limit list t q c g a)
 
   -- so in a sound state
   pub chosen-none : (lo : ℕ → ℕ) (s : State) → SoundFrom lo s → chosen x y z s ≡ x
@@ -131,11 +132,11 @@ module _ (lo lo′ : ℕ → ℕ) (k : ℕ) (s : State) (h : SoundFrom lo s) (e 
       (wait-thread (s .header .start) (s .now) (s .now + k) (lo j) (lo′ j) (ltb j (s .header .n)) (threadAt s j) (pendingAt s j) (h .each j m) (omega arith) (d j m))
 
   -- the lists for a new place of the running thread
-  relisted : (p : ℕ) (l′ : List ℕ) → ListsSound (withPlace (place s) (head s) p) (occupancy l′) l′
-      → ListsSound (withPlace (place (ranState k s)) (head s) p) (occupancy l′) l′
-  relisted p l′ q = sound-same (withPlace (place s) (head s) p) (withPlace (place (ranState k s)) (head s) p) (occupancy l′) l′ (λ j m. go j (ℕ-discrete j (head s))) q
+  relisted : (list : ℕ) (l′ : List ℕ) → ListsSound (withPlace (place s) (head s) list) (occupancy l′) l′
+      → ListsSound (withPlace (place (ranState k s)) (head s) list) (occupancy l′) l′
+  relisted list l′ q = sound-same (withPlace (place s) (head s) list) (withPlace (place (ranState k s)) (head s) list) (occupancy l′) l′ (λ j m. go j (ℕ-discrete j (head s))) q
     where
-      go : (j : ℕ) → Dec (j ≡ head s) → withPlace (place (ranState k s)) (head s) p j ≡ withPlace (place s) (head s) p j
+      go : (j : ℕ) → Dec (j ≡ head s) → withPlace (place (ranState k s)) (head s) list j ≡ withPlace (place s) (head s) list j
       go j (yes c) = rw (eq-eqb j (head s) c)
       go j (no c) =
           rw (ne-eqb j (head s) c)
@@ -173,7 +174,7 @@ module _ (lo lo′ : ℕ → ℕ) (k : ℕ) (s : State) (h : SoundFrom lo s) (e 
         (again (withLeft (t′ .parameters .budget) t′) (record { server = t′ .server; pending = pendingAt s (head s) }) (lo′ (head s))
         (row-length (head s) (s .dues) (run .small) (omega (tests, h .sizes))) (row-length (head s) (s .amounts) (run .small) (omega (tests, h .sizes)))
         (rr n z g (omega (tests, g)) (by-one (t′ .parameters .policy) _ _ _ z ∙ v) f) refl (moved (head s) (level s) (level s) (s .lists))
-        (subst⁻¹ (λ (p : ℕ). ListsSound (withPlace (place s) (head s) p) (occupancy (moved (head s) (level s) (level s) (s .lists))) (moved (head s) (level s) (level s) (s .lists))) here
+        (subst⁻¹ (λ (list : ℕ). ListsSound (withPlace (place s) (head s) list) (occupancy (moved (head s) (level s) (level s) (s .lists))) (moved (head s) (level s) (level s) (s .lists))) here
         (move-sound (place s) (s .word) (s .lists) (h .lists) (head s) (run .small) (level s) (level s) (run .range .0) (run .range .1) standing (run .range .0) (run .range .1))))
       where
         is : limits (ranState k s)

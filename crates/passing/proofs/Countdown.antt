@@ -5,7 +5,7 @@ use mathlib.Core.Path.{_≡_, refl}
 use mathlib.Core.List.{List, [], _∷_, map}
 use lib.Dec.{ltb, leb, eqb}
 use native.Mathlib.Omega.{arith}
-use Rattle.passing.specs.Time.{Clock, run}
+use Rattle.passing.specs.Time.{Clock, byMoments}
 use Rattle.base.specs.Refusals.{firstRefusal}
 use Rattle.passing.specs.Sequence.{Machine, Answer, status, answer, answers}
 use Rattle.passing.specs.Readings.{Entry, second, Placed}
@@ -46,7 +46,7 @@ timer =
       reading = λ t. record { time = t; kind = 0 };
       fieldStatus = λ s e. cond (ltb 1 (e .kind)) 4 0;
       stateStatus = λ s e. cond (eqb (e .kind) 1 && eqb (s .left) 0) 7 0;
-      effect = λ s e. cond (eqb (e .kind) 1) (withLeft 0 s) s;
+      does = λ s e. cond (eqb (e .kind) 1) (withLeft 0 s) s;
     }
 
 -- A row: the request's time and kind, then the answer's status, running thread and next moment.
@@ -84,14 +84,14 @@ sound-rows : Computed fresh
     ∷ row 51 1 2 255 0  -- too far, which comes before not running
     ∷ row 40 0 0 255 0  -- no moment once it is stopped
     ∷ [])
-unfolding run firstRefusal status answer
+unfolding byMoments firstRefusal status answer
 sound-rows = refl
 
 unsound-rows : Computed (record { now = 0; left = 6; period = 5 })
     (row 1 0 9 255 0  -- more ticks left than the period
     ∷ row 1001 2 9 255 0  -- which comes before all else
     ∷ [])
-unfolding run firstRefusal status answer
+unfolding byMoments firstRefusal status answer
 unsound-rows = refl
 
 -- A row: the times of extra clock readings, and the time and the kind of the request that they stand before.
@@ -103,7 +103,7 @@ fifth = record { now = 5; left = 5; period = 5 }
 
 -- from the time now up to the request's time
 placed-row : Placed timer fifth fifth (before (5 ∷ 6 ∷ 6 ∷ 7 ∷ []) 7 0)
-unfolding run firstRefusal status answer
+unfolding byMoments firstRefusal status answer
 placed-row = ((omega arith, (omega arith, (omega arith, (omega arith, (omega arith, omega arith))))), tt)
 
 -- a tick before the time now
@@ -116,7 +116,7 @@ late-row h = omega (arith, h .0 .1 .1)
 
 -- before a request that is refused: there is no such kind
 refused-row : Placed timer fifth fifth (before (6 ∷ []) 7 2) → ⊥
-unfolding run firstRefusal status answer
+unfolding byMoments firstRefusal status answer
 refused-row h = omega (arith, h .0 .0)
 
 -- Reports: 1 for each moment, with what is left then, which is 0; 100 for each tick; 10 where the timer is stopped.
@@ -133,7 +133,7 @@ asked t k = record { time = t; kind = k }
 report-row : reports timer counted stopped fresh
     (asked 5 0 ∷ asked 5 0 ∷ asked 7 0 ∷ asked 12 2 ∷ asked 27 0 ∷ asked 30 1 ∷ asked 40 0 ∷ [])
     ≡ 501 ∷ 0 ∷ 200 ∷ 0 ∷ 2004 ∷ 311 ∷ 1000 ∷ []
-unfolding run firstRefusal status answer report
+unfolding byMoments firstRefusal status answer report
 report-row = refl
 
 -- two requests, the first with three extra readings before it: what each event of the second sequence reports, and the two sums
@@ -141,9 +141,9 @@ abbrev spread : List (Entry Request)
 spread = record { times = 3 ∷ 5 ∷ 5 ∷ []; event = asked 12 1 } ∷ record { times = []; event = asked 11 0 } ∷ []
 
 spread-row : reports timer counted stopped fresh (second timer spread) ≡ 300 ∷ 201 ∷ 0 ∷ 711 ∷ 0 ∷ []
-unfolding run firstRefusal status answer report
+unfolding byMoments firstRefusal status answer report
 spread-row = refl
 
 sums-row : sums counted spread (reports timer counted stopped fresh (second timer spread)) ≡ 1212 ∷ 0 ∷ []
-unfolding run firstRefusal status answer report
+unfolding byMoments firstRefusal status answer report
 sums-row = refl

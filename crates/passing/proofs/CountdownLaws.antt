@@ -6,7 +6,7 @@ use mathlib.Core.List.{List, [], _∷_}
 use lib.Dec.{ltb, leb}
 use native.Mathlib.Omega.{arith}
 use borrow.Author.Tests.{ltb-true, leb-true, lt-ltb, le-ltb, le-leb}
-use Rattle.passing.specs.Time.{run, moment}
+use Rattle.passing.specs.Time.{byMoments, moment}
 use Rattle.base.specs.Refusals.{firstRefusal}
 use Rattle.passing.specs.Sequence.{status, answer}
 use Rattle.passing.specs.Readings.{Entry, first, second, Placed, SameAnswers}
@@ -68,7 +68,7 @@ laws =
       time-reading = λ t. refl;
       field-reading = λ s t. refl;
       state-reading = λ s t. refl;
-      effect-reading = λ s t. refl;
+      does-reading = λ s t. refl;
     }
 
 -- two readings up to a request's time, none before a refused one, and one at the very time of the last
@@ -80,7 +80,7 @@ entries =
     ∷ []
 
 placed : Placed timer fresh fresh entries
-unfolding run firstRefusal status answer entries
+unfolding byMoments firstRefusal status answer entries
 placed = ((refl, omega arith), (tt, ((refl, omega arith), tt)))
 
 placed-same : SameAnswers timer fresh entries

@@ -7,7 +7,7 @@ use lib.ListN.{length, take, drop, length-map}
 use native.Mathlib.Omega.{arith}
 use lib.Dec.{eqb}
 use borrow.Author.Tests.{ne-eqb}
-use Rattle.passing.specs.Time.{Clock, dueBy, chargeTo, moment, run, advance}
+use Rattle.passing.specs.Time.{Clock, dueBy, chargeTo, moment, byMoments, advance}
 use Rattle.passing.specs.Sequence.{Machine, Answer, status, answer, end}
 use Rattle.passing.specs.Readings.{Ordered, readings, second, Allowed}
 use Rattle.passing.specs.Reports.{Reports, Reported, reporting, reportedTo, report, reports, total, sums, ReportsAddUp}
@@ -42,15 +42,15 @@ module _ {S R : Type 0} (C : Clock S) (P : Reports S R) where
     pub charged-add : (i j : ℕ) (s : S) → Sound s → P .plus (P .charged i s) (P .charged j (C .charge i s)) ≡ P .charged (i + j) s
 
   -- reporting changes no state
-  run-state : (k : ℕ) (u : Reported S R) (t : ℕ) → run D k u t .state ≡ run C k (u .state) t
-  unfolding run
-  run-state zero u t = refl
-  run-state (suc k) u t =
+  moments-state : (k : ℕ) (u : Reported S R) (t : ℕ) → byMoments D k u t .state ≡ byMoments C k (u .state) t
+  unfolding byMoments
+  moments-state zero u t = refl
+  moments-state (suc k) u t =
       part (λ (v : Reported S R). v .state) (dueBy (C .next (u .state)) t) _ _
-      ∙ choice (dueBy (C .next (u .state)) t) _ _ _ _ (run-state k (moment D u) t) refl
+      ∙ choice (dueBy (C .next (u .state)) t) _ _ _ _ (moments-state k (moment D u) t) refl
 
   pub reporting-state : (u : Reported S R) (t : ℕ) → advance D u t .state ≡ advance C (u .state) t
-  reporting-state u t = run-state _ u t
+  reporting-state u t = moments-state _ u t
 
   module _ {Sound : S → Type 0} {top : ℕ} (L : Laws C Sound top) (Q : ReportLaws Sound) where
     -- what was reported before stands in front
@@ -65,12 +65,12 @@ module _ {S R : Type 0} (C : Clock S) (P : Reports S R) where
         let v = chargeTo D u (D .next u) in
         ap (D .fire) (charge-after r u _) ∙ ap (with (C .fire (v .state))) (Q .plus-plus r (v .report) (P .fired (v .state)))
 
-    run-after : (k : ℕ) (r : R) (u : Reported S R) (t : ℕ) → run D k (after r u) t ≡ after r (run D k u t)
-    unfolding run
-    run-after zero r u t = charge-after r u _
-    run-after (suc k) r u t =
+    moments-after : (k : ℕ) (r : R) (u : Reported S R) (t : ℕ) → byMoments D k (after r u) t ≡ after r (byMoments D k u t)
+    unfolding byMoments
+    moments-after zero r u t = charge-after r u _
+    moments-after (suc k) r u t =
         choice (dueBy (C .next (u .state)) t) _ _ _ _
-        (ap (λ (v : Reported S R). run D k v t) (moment-after r u) ∙ run-after k r (moment D u) t)
+        (ap (λ (v : Reported S R). byMoments D k v t) (moment-after r u) ∙ moments-after k r (moment D u) t)
         (charge-after r u _)
         ∙ sym (part (after r) (dueBy (C .next (u .state)) t) _ _)
 
@@ -93,7 +93,7 @@ module _ {S R : Type 0} (C : Clock S) (P : Reports S R) where
     from : (s : S) (r : R) (t : ℕ) → advance D (with s r) t .report ≡ P .plus r (reportedTo C P s t)
     from s r t =
         ap (λ (x : R). advance D (with s x) t .report) (sym (Q .plus-none r))
-        ∙ ap (λ (v : Reported S R). v .report) (run-after (t - C .now s) r (with s (P .none)) t)
+        ∙ ap (λ (v : Reported S R). v .report) (moments-after (t - C .now s) r (with s (P .none)) t)
 
     -- where no moment is due, the ticks report
     pub reported-rest : (s : S) (t : ℕ) → dueBy (C .next s) t ≡ false → reportedTo C P s t ≡ P .charged (t - C .now s) s
@@ -221,19 +221,19 @@ module _ {S R T : Type 0} (P : Reports S R) (Q : Reports S T) (read : R → T) (
     fire-read u =
         λ x. record { state = C .fire (u .state); report = (ap (Q .plus (read (u .report))) (sym (fired (u .state))) ∙ sym (plus (u .report) (P .fired (u .state)))) x }
 
-    run-read : (k : ℕ) (u : Reported S R) (t : ℕ) → run (reporting C Q) k (reads u) t ≡ reads (run (reporting C P) k u t)
-    unfolding run
-    run-read zero u t = charge-read _ u
-    run-read (suc k) u t =
+    moments-read : (k : ℕ) (u : Reported S R) (t : ℕ) → byMoments (reporting C Q) k (reads u) t ≡ reads (byMoments (reporting C P) k u t)
+    unfolding byMoments
+    moments-read zero u t = charge-read _ u
+    moments-read (suc k) u t =
         choice (dueBy (C .next (u .state)) t) _ _ _ _
-        (ap (λ (v : Reported S T). run (reporting C Q) k v t) (ap (reporting C Q .fire) (charge-read _ u) ∙ fire-read (chargeTo (reporting C P) u (C .next (u .state))))
-        ∙ run-read k (moment (reporting C P) u) t)
+        (ap (λ (v : Reported S T). byMoments (reporting C Q) k v t) (ap (reporting C Q .fire) (charge-read _ u) ∙ fire-read (chargeTo (reporting C P) u (C .next (u .state))))
+        ∙ moments-read k (moment (reporting C P) u) t)
         (charge-read _ u)
         ∙ sym (part reads (dueBy (C .next (u .state)) t) _ _)
 
     pub reported-read : (s : S) (t : ℕ) → read (reportedTo C P s t) ≡ reportedTo C Q s t
     reported-read s t =
-        ap (λ (v : Reported S T). v .report) (sym (run-read (t - C .now s) (record { state = s; report = P .none }) t))
+        ap (λ (v : Reported S T). v .report) (sym (moments-read (t - C .now s) (record { state = s; report = P .none }) t))
         ∙ ap (λ (r : T). advance (reporting C Q) (record { state = s; report = r }) t .report) none
 
 module _ {S E R T : Type 0} (M : Machine S E) (P : Reports S R) (Q : Reports S T) (read : R → T) (none : read (P .none) ≡ Q .none)
