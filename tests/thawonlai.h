@@ -1,5 +1,5 @@
-/* What the static libraries export, for C: the functions of crates/board, board_counter, board_search, board_shares, board_trace, board_replay,
-   board_text and board_check, and the structs that they name. A slice is a pointer and then a length. */
+/* What the static libraries export, for C: the functions of crates/board, board_bound, board_counter, board_search, board_shares, board_trace,
+   board_replay, board_text and board_check, and the structs that they name. A slice is a pointer and then a length. */
 #ifndef THAWONLAI_H
 #define THAWONLAI_H
 #include <stddef.h>
@@ -26,6 +26,8 @@ struct core {
 struct reply { uint8_t status, running; uint64_t next; };
 /* status 0, or 5 where n is out of range; thread THREADS where no thread has anything pending, then due 0 */
 struct next_due { uint8_t status, thread; uint64_t due; };
+/* status 0, or 6 where the parameters are no sporadic ones in range, then ticks 0 */
+struct most { uint8_t status; uint64_t ticks; };
 /* form 0 a share, 1 no time has passed, 2 refused with the status; what doesn't apply is 0 */
 struct share { uint8_t form, status; double share; };
 struct share_summary { uint8_t form, status, largest_thread, smallest_thread; double largest, smallest; };
@@ -45,6 +47,8 @@ struct reply thawonlai_counter_event(struct core *core, uint64_t *dues, uint64_t
 struct answer thawonlai_open(struct header header, struct table table, uint64_t *dues, uint64_t *amounts);
 uint8_t thawonlai_sound(const struct core *core, const uint64_t *dues, const uint64_t *amounts);
 struct next_due thawonlai_next_due(const uint8_t counts[THREADS], const uint64_t dues[SLOTS], uint32_t n);
+/* the most of `length` ticks that a sporadic thread takes at its upper priority */
+struct most thawonlai_bound(struct parameters p, uint64_t length);
 struct share thawonlai_share(const struct core *core, const uint64_t *dues, const uint64_t *amounts, uint8_t thread);
 struct share_summary thawonlai_share_summary(const struct core *core, const uint64_t *dues, const uint64_t *amounts);
 /* the lines of a trace's shares into SHARE_LINES bytes, zeros after them; how many bytes they are */

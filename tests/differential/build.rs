@@ -9,6 +9,7 @@ fn main() {
         "board",
         "board_counter",
         "board_search",
+        "board_bound",
         "board_shares",
         "board_trace",
         "board_replay",

@@ -15,9 +15,10 @@ use Rattle.reports.specs.Steps.Step.{ran, quantum, limit, effect}
 use Rattle.reports.specs.Tallies.{Tally, nothing, plus, tallyOf, noTallies, tallied}
 use Rattle.reports.proofs.TallyLaws.{tallied-append}
 use Rattle.ledger.specs.Ledger.{backIn, sumOf}
+use Rattle.thread.specs.declared.Thread.{Thread}
 use Rattle.state.specs.declared.State.{State}
 use Rattle.state.specs.State.{threadAt}
-use Rattle.ticks.specs.Running.{level, head, idles}
+use Rattle.ticks.specs.Running.{head, idles}
 use Rattle.moments.specs.Reports.{tallies}
 use Rattle.events.specs.Answers.{executive}
 use Rattle.events.specs.Reports.{ownLog, ownTallies}
@@ -31,12 +32,15 @@ ran-told i k a = λ x j. go (eqb i j) x
     go true = refl
     go false = refl
 
+level-told : (k p i : ℕ) (t : Thread) → tallied (ranLog k p i t) ≡ noTallies
+level-told k p i t =
+    let P : Log → Type 0 = λ xs. tallied xs ≡ noTallies in
+    policy-elim P (t .parameters .policy) _ _ _ (λ c. refl) (λ c. refl)
+    (λ c. cond-elim P (eqb p (t .parameters .priority)) _ _ (λ d. ran-told i k (t .server .activation)) (λ d. refl))
+
 charge-told : (k : ℕ) (s : State) → tallied (chargeLog k s) ≡ noTallies
 charge-told k s =
-    let P : Log → Type 0 = λ xs. tallied xs ≡ noTallies in
-    cond-elim P (idles s) [] (ranLog k (level s) (head s) (threadAt s (head s))) (λ e. refl)
-    (λ e. policy-elim P (threadAt s (head s) .parameters .policy) _ _ _ (λ c. refl) (λ c. refl)
-    (λ c. cond-elim P (eqb (level s) (threadAt s (head s) .parameters .priority)) _ _ (λ d. ran-told (head s) k (threadAt s (head s) .server .activation)) (λ d. refl)))
+    cond-elim (λ (xs : Log). tallied xs ≡ noTallies) (idles s) [] _ (λ e. refl) (λ e. level-told k _ (head s) (threadAt s (head s)))
 
 -- what the events tell is read off the history
 told-of-history : (s : State) (es : List Event) → total tallies (reports executive tallies ownTallies s es) ≡ tallied (history s es)

@@ -10,6 +10,7 @@ use Rattle.records.specs.declared.Event.{Event}
 use Rattle.passing.specs.Sequence.{end}
 use Rattle.ledger.specs.Ledger.{ranIn, sumOf}
 use Rattle.ledger.specs.Bound.{stretch, mostUpper}
+use Rattle.bound.specs.Most.{mostOf}
 use Rattle.state.specs.declared.State.{State}
 use Rattle.state.specs.State.{threadAt}
 use Rattle.state.specs.Sound.{soundState}
@@ -47,10 +48,11 @@ TwiceEachPeriod =
 abbrev pub TwiceInAPeriod : Type 0
 TwiceInAPeriod = (i : ℕ) (s : State) (es : List Event) → Watched i s es → end executive s es .now ≤ s .now + own i s .period → upperTicks i s es ≤ 2 * own i s .budget
 
--- in any number of ticks at most `mostUpper` of them
+-- `bound::most_of` accepts its parameters, and in any number of ticks it takes no more than that answers
 abbrev pub NeverMore : Type 0
 NeverMore =
-    (length i : ℕ) (s : State) (es : List Event) → Watched i s es → end executive s es .now ≤ s .now + length → upperTicks i s es ≤ mostUpper (own i s) length
+    (length i : ℕ) (s : State) (es : List Event) → Watched i s es → end executive s es .now ≤ s .now + length
+    → (mostOf (own i s) length .status ≡ 0) × (upperTicks i s es ≤ mostOf (own i s) length .ticks)
 
 -- ---- it is reached
 

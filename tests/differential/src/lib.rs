@@ -111,6 +111,14 @@ pub struct NextDue {
     pub due: u64,
 }
 
+/// The most that a sporadic thread takes at its upper priority; 0 ticks where it is refused.
+#[repr(C)]
+#[derive(Clone, Copy, Debug, PartialEq, Eq)]
+pub struct Most {
+    pub status: u8,
+    pub ticks: u64,
+}
+
 /// A thread's share: form 0 a share, 1 no time has passed, 2 refused. What doesn't apply is 0.
 #[repr(C)]
 #[derive(Clone, Copy, Debug)]
@@ -263,6 +271,7 @@ mod exported {
         ) -> Answered;
         pub fn thawonlai_sound(core: *const Core, dues: *const u64, amounts: *const u64) -> u8;
         pub fn thawonlai_next_due(counts: *const u8, dues: *const u64, n: u32) -> NextDue;
+        pub fn thawonlai_bound(p: Parameters, length: u64) -> Most;
         pub fn thawonlai_share(
             core: *const Core,
             dues: *const u64,
@@ -355,6 +364,11 @@ pub fn sound(s: &State) -> u8 {
 pub fn next_due(counts: &[u8; THREADS], dues: &[u64], n: u32) -> NextDue {
     assert_eq!(dues.len(), THREADS * PENDING);
     unsafe { exported::thawonlai_next_due(counts.as_ptr(), dues.as_ptr(), n) }
+}
+
+/// The most of `length` ticks.
+pub fn bound(p: Parameters, length: u64) -> Most {
+    unsafe { exported::thawonlai_bound(p, length) }
 }
 
 pub fn share(s: &State, thread: u8) -> Share {
@@ -469,6 +483,15 @@ impl From<Result<Option<(usize, u64)>, u8>> for NextDue {
             status: a.err().unwrap_or(0),
             thread: thread as u8,
             due,
+        }
+    }
+}
+
+impl From<Result<u64, u8>> for Most {
+    fn from(a: Result<u64, u8>) -> Most {
+        Most {
+            status: a.err().unwrap_or(0),
+            ticks: a.unwrap_or(0),
         }
     }
 }

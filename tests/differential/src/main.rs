@@ -11,6 +11,7 @@ mod coverage;
 mod events;
 mod files;
 mod history;
+mod most;
 mod replays;
 mod searches;
 mod share_lines;
@@ -18,6 +19,7 @@ mod shares;
 mod stored;
 mod texts;
 mod told;
+mod windows;
 mod writes;
 
 use coverage::Coverage;
@@ -60,6 +62,8 @@ const SORTS: &[Sort] = &[
     sort("laps", 120_000, counter::readings),
     // shares of the elapsed time
     sort("plots", 100_000, shares::shares),
+    // the most that a sporadic thread takes, and the ticks of windows held to it
+    sort("most", 4_000, most::most),
     // the lines of shares at the end of a replay
     sort("lines", 4_000, share_lines::share_lines),
     // events of one account, carried over again and again

@@ -7,9 +7,10 @@
 //! One processor; SCHED_FIFO, SCHED_RR and SCHED_SPORADIC; the state, the events, the
 //! trace file's reader and writer, the listing of a replay and the check of another
 //! one, traces as text, the search for the next due, what happened while time passed,
-//! events at a reading of a counter, and shares.
+//! events at a reading of a counter, shares, and the most that a sporadic thread takes.
 #![forbid(unsafe_code)]
 
+mod bound;
 mod check;
 mod counter;
 mod counts;
@@ -22,6 +23,7 @@ mod state;
 mod text;
 mod trace;
 
+pub use bound::bound;
 pub use check::{verdict, Verdict};
 pub use counter::{counter_event, counter_time, elapsed, CounterEvent};
 pub use counts::{counts, counts_text, Counts, Told, NOTHING_TOLD};

@@ -1,0 +1,2 @@
+-- Laws that the proofs of `bound` share.
+pub mod MostLaws

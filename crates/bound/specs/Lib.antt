@@ -1,0 +1,2 @@
+-- What a reader of `bound` must believe.
+pub mod Most

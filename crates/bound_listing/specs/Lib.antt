@@ -1,0 +1,2 @@
+-- What a reader of `bound_listing` must believe.
+pub mod BoundListing

@@ -1,0 +1,2 @@
+-- Laws that the proofs of `bound_of_trace` share.
+pub mod ListLaws
