@@ -56,5 +56,5 @@ pub extern "C" fn thawonlai_next_due<'a>(
     if (THREADS as u32) < n {
         return refused();
     }
-    found(due_search::next_due(counts, dues, n as usize))
+    found(next_due::next_due(counts, dues, n as usize))
 }

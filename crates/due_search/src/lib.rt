@@ -1,26 +1,22 @@
 // The search for the next due: threads that have nothing pending are passed over, and of the rest only the first due is read.
 //
-// Which threads those are is put into a word first, a bit for each, and its lowest bit is taken off until none is left; few threads are
-// looked at one by one, since the word costs more. Who searches again may keep the word.
+// It goes thread by thread, or through the word of those that have something pending: its lowest bit is taken off until none is left. Who
+// searches again may keep the word.
 ghost use mathlib.Core.Path.{_≡_};
 ghost use mathlib.Core.Bool.{cond};
-ghost use Prim.Native.Nat.{_-_, _<_, _≤_, _^_};
+ghost use Prim.Native.Nat.{_-_, _<_, _≤_};
 ghost use lib.Bits.{bitAnd};
 ghost use lib.Count.{trailingZeros};
-ghost use lib.Dec.{eqb, ltb};
+ghost use lib.Dec.{ltb};
 ghost use Rattle.records.specs.Ranges.{mostThreads};
 ghost use Rattle.due_search.specs.Search.{firstDue, sooner, nextDue};
-ghost use Rattle.due_search.specs.Kept.{NextAfter};
-ghost use Rattle.due_search.specs.Word.{PendingWord, NextInWord, WordAfter};
+ghost use Rattle.due_search.specs.Word.{NextInWord};
 use account::ENTRIES;
 use records::THREADS;
 use rows::SLOTS;
 
 // The slot of a thread's first entry among its own.
 const FIRST: usize = 0;
-
-// From so many threads on the word is quicker.
-const MANY: usize = 8;
 
 // The first of the dues, and the lowest thread that has it; thread THREADS for none.
 pub struct Due {
@@ -29,18 +25,7 @@ pub struct Due {
 }
 
 // Of the first n threads that have a replenishment pending: the least first due and the lowest thread that has it.
-pub fn next_due<'a>(counts: &'a [u8; THREADS], dues: &'a [u64; SLOTS], n: usize) -> Due
-    requires { ⌜ n ≤ mostThreads ⌝ }
-    ensures { λ r. ⌜ r ≡ nextDue (now (counts .entry)) (now (dues .entry)) n ⌝ }
-{
-    if n < MANY {
-        return each_thread(counts, dues, n);
-    }
-    next_in_word(below(pending_word(counts), n), dues, 0)
-}
-
-// The same, thread by thread.
-fn each_thread<'a>(counts: &'a [u8; THREADS], dues: &'a [u64; SLOTS], n: usize) -> Due
+pub fn each_thread<'a>(counts: &'a [u8; THREADS], dues: &'a [u64; SLOTS], n: usize) -> Due
     requires { ⌜ n ≤ mostThreads ⌝ }
     ensures { λ r. ⌜ r ≡ nextDue (now (counts .entry)) (now (dues .entry)) n ⌝ }
 {
@@ -60,7 +45,7 @@ fn each_thread<'a>(counts: &'a [u8; THREADS], dues: &'a [u64; SLOTS], n: usize) 
     best
 }
 
-// That of the threads of a word. Where no first due is before `earliest`, the search ends at the first that is not after it, since none is
+// The same of the threads of a word. Where no first due is before `earliest`, the search ends at the first that is not after it, since none is
 // sooner.
 pub fn next_in_word(word: u32, dues: &[u64; SLOTS], earliest: u64) -> Due
     ensures { λ r. ⌜ NextInWord word (now (dues .entry)) earliest r ⌝ }
@@ -86,59 +71,6 @@ pub fn next_in_word(word: u32, dues: &[u64; SLOTS], earliest: u64) -> Due
         best = lesser_of(best, k, first_due(dues, k));
     }
     best
-}
-
-// The threads that have something pending, a bit for each.
-pub fn pending_word(counts: &[u8; THREADS]) -> u32
-    ensures { λ r. ⌜ PendingWord (now (counts .entry)) r ⌝ }
-{
-    let mut word: u32 = 0;
-    let mut k: usize = 0;
-    while k < THREADS {
-        word = word + pending_bit(counts[k], k);
-        k = k + 1;
-    }
-    word
-}
-
-// The same word where thread i's count became `count`.
-pub fn word_after(word: u32, i: usize, count: u8) -> u32
-    requires { ⌜ i < mostThreads ⌝ }
-    ensures { λ r. ⌜ WordAfter word i count r ⌝ }
-{
-    let bit = bit_of(i);
-    let with = word | bit;
-    if count == 0 {
-        return with ^ bit;
-    }
-    with
-}
-
-// The threads of a word that are below n.
-fn below(word: u32, n: usize) -> u32
-    requires { ⌜ n ≤ mostThreads ⌝ }
-    ensures { λ r. ⌜ r ≡ bitAnd word (2 ^ n - 1) ⌝ }
-{
-    word & (((1u64 << (n as u32)) - 1) as u32)
-}
-
-// The bit of thread i where it has something pending, else 0.
-fn pending_bit(count: u8, i: usize) -> u32
-    requires { ⌜ i < mostThreads ⌝ }
-    ensures { λ r. ⌜ r ≡ cond (eqb count 0) 0 (2 ^ i) ⌝ }
-{
-    if 0 < count {
-        return bit_of(i);
-    }
-    0
-}
-
-// The bit of thread i.
-fn bit_of(i: usize) -> u32
-    requires { ⌜ i < mostThreads ⌝ }
-    ensures { λ r. ⌜ r ≡ 2 ^ i ⌝ }
-{
-    1u32 << (i as u32)
 }
 
 // The lowest thread of a word, THREADS where it has none.
@@ -175,29 +107,11 @@ fn lesser_of(best: Due, k: usize, d: u64) -> Due
 }
 
 // The same, where there may be no best so far.
-fn sooner_of(best: Due, k: usize, d: u64) -> Due
+pub fn sooner_of(best: Due, k: usize, d: u64) -> Due
     ensures { λ r. ⌜ r ≡ sooner k d best ⌝ }
 {
     if best.thread == THREADS {
         return Due { due: d, thread: k };
     }
     lesser_of(best, k, d)
-}
-
-// The next due after a limit of thread k, which has `count` entries then, the first due at d: that of the counts and dues
-// as they are, without a search.
-pub fn after_limit(x: Due, k: usize, count: u8, d: u64) -> Due
-    ensures { λ r. ⌜ NextAfter x k count d r ⌝ }
-{
-    if count == 0 {
-        return x;
-    }
-    if d != x.due {
-        return sooner_of(x, k, d);
-    }
-    // at equal dues the lower thread comes first
-    if k < x.thread {
-        return Due { due: d, thread: k };
-    }
-    x
 }

@@ -50,7 +50,7 @@ fn show(c: Case, n: usize) {
     }
     let counts = c.counts;
     let dues = c.dues;
-    let x = due_search::next_due(&counts, &dues, n);
+    let x = next_due::next_due(&counts, &dues, n);
     number(n as u64);
     number(x.thread as u64);
     io::print_decimal(STDOUT_FILENO, x.due);

@@ -161,7 +161,7 @@ pub fn advance(
     ensures numbers { λ _. ⌜ now (told .exit) ≡ numbers (reported (whole s (now (dues .entry)) (now (amounts .entry))) t) ⌝ }
 {
     // kept from search to search, since a turn changes one count at most
-    let mut waiting = due_search::pending_word(&s.counts);
+    let mut waiting = pending_words::pending_word(&s.counts);
     let mut x = due_search::next_in_word(waiting, dues, 0);
     loop {
         let p = ready::highest(s.word);
@@ -213,12 +213,12 @@ pub fn advance(
         s.word = send(&mut s.lists, word, number, parameters, place);
         let pending = account::count_after(first, amount, count);
         s.counts[j] = pending;
-        waiting = due_search::word_after(waiting, j, pending);
+        waiting = pending_words::word_after(waiting, j, pending);
         change_rows(dues, amounts, j, first, amount, count, due);
         if limited {
             reports::tell_limit(told, j, back);
             let d = dues[at];
-            x = due_search::after_limit(x, j, pending, d);
+            x = next_due::after_limit(x, j, pending, d);
             continue;
         }
         reports::tell_back(told, j, back);

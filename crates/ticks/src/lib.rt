@@ -159,6 +159,6 @@ pub fn next_moment<'a>(
     requires { ⌜ (n ≤ mostThreads) × (time + t .left < 2 ^ 64) × (time + t .server .capacity < 2 ^ 64) ⌝ }
     ensures { λ r. ⌜ r ≡ earlier (cond (eqb p 0) 0 (limitOf time p t)) (nextDue (now (counts .entry)) (now (dues .entry)) n .due) ⌝ }
 {
-    let x = due_search::next_due(counts, dues, n);
+    let x = next_due::next_due(counts, dues, n);
     earlier_of(limit_at(time, p, t), x.due)
 }

@@ -1,9 +1,9 @@
--- `due_search::pending_bit` meets its contract.
+-- `pending_words::pending_bit` meets its contract.
 use native.Mathlib.Omega.{arith}
 use borrow.Author.Needs.{needs}
 use borrow.Author.Tests.{eq-eqb, ne-eqb}
-use Rattle.due_search.proofs.pending_bit.Statement.{statement}
-use Rattle.due_search.proofs.pending_bit.Tie as tie
+use Rattle.pending_words.proofs.pending_bit.Statement.{statement}
+use Rattle.pending_words.proofs.pending_bit.Tie as tie
 
 bit-of-requires : tie.Need-bit-of-requires
 bit-of-requires c κs = search needs

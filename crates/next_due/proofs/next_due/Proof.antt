@@ -1,13 +1,13 @@
--- `due_search::next_due` meets its contract: the threads from n on are taken off the word, as if they had nothing pending, and no due is
+-- `next_due::next_due` meets its contract: the threads from n on are taken off the word, as if they had nothing pending, and no due is
 -- before 0.
 use mathlib.Core.Path.{_∙_}
 use lib.ListN.{take}
 use native.Mathlib.Omega.{arith}
 use borrow.Author.Needs.{needs}
 use Rattle.due_search.specs.Word.{PendingWord}
 use Rattle.due_search.proofs.SearchLaws.{below-word, below-due}
-use Rattle.due_search.proofs.next_due.Statement.{statement}
-use Rattle.due_search.proofs.next_due.Tie as tie
+use Rattle.next_due.proofs.next_due.Statement.{statement}
+use Rattle.next_due.proofs.next_due.Tie as tie
 
 each-thread-requires : tie.Need-each-thread-requires
 each-thread-requires c κs = search needs

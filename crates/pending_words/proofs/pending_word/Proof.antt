@@ -1,13 +1,13 @@
--- `due_search::pending_word` meets its contract: after k threads the word has k digits, one for each of them.
+-- `pending_words::pending_word` meets its contract: after k threads the word has k digits, one for each of them.
 use Prim.Native.Nat.{ℕ, suc, _+_, _-_, _^_, _≤_, _<_}
 use mathlib.Core.Path.{_≡_}
 use native.Mathlib.Nat.{pow-le-pow-right}
 use native.Mathlib.Numerals.{add-one}
 use native.Mathlib.Omega.{arith}
 use Rattle.due_search.specs.Word.{digit, pendingDigit}
 use Rattle.due_search.proofs.SearchLaws.{word-more}
-use Rattle.due_search.proofs.pending_word.Statement.{statement}
-use Rattle.due_search.proofs.pending_word.Tie as tie
+use Rattle.pending_words.proofs.pending_word.Statement.{statement}
+use Rattle.pending_words.proofs.pending_word.Tie as tie
 
 abbrev Inv-loop : tie.InvT-loop
 Inv-loop counts word₀ k₀ word k = (k ≤ 32) × (word < 2 ^ k) × ((j : ℕ) → j < k → digit j word ≡ pendingDigit counts j)

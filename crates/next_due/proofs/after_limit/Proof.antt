@@ -1,12 +1,12 @@
--- `due_search::after_limit` meets its contract.
+-- `next_due::after_limit` meets its contract.
 use native.Mathlib.Omega.{arith}
 use Prim.Native.Nat.{_<_}
 use mathlib.Core.Path.{_≡_, _∙_}
 use borrow.Author.Tests.{lt-ltb, le-ltb, eq-eqb, ne-eqb}
 use Rattle.due_search.specs.declared.Due.{Due}
 use Rattle.due_search.proofs.DueLaws.{afterEntry, entry-came}
-use Rattle.due_search.proofs.after_limit.Statement.{statement}
-use Rattle.due_search.proofs.after_limit.Tie as tie
+use Rattle.next_due.proofs.after_limit.Statement.{statement}
+use Rattle.next_due.proofs.after_limit.Tie as tie
 
 returns : tie.Need-returns
 returns c counts dues n h =

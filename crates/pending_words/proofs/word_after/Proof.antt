@@ -1,8 +1,8 @@
--- `due_search::word_after` meets its contract: the bit of the thread is set, and taken off again where nothing is pending.
+-- `pending_words::word_after` meets its contract: the bit of the thread is set, and taken off again where nothing is pending.
 use borrow.Author.Needs.{needs}
 use Rattle.due_search.proofs.SearchLaws.{word-with, word-without}
-use Rattle.due_search.proofs.word_after.Statement.{statement}
-use Rattle.due_search.proofs.word_after.Tie as tie
+use Rattle.pending_words.proofs.word_after.Statement.{statement}
+use Rattle.pending_words.proofs.word_after.Tie as tie
 
 bit-of-requires : tie.Need-bit-of-requires
 bit-of-requires c κs = search needs

@@ -1,11 +1,11 @@
--- `due_search::bit_of` meets its contract: 2 to the power i fits the word.
+-- `pending_words::bit_of` meets its contract: 2 to the power i fits the word.
 use Prim.Native.Nat.{_*_, _^_, _≤_}
 use mathlib.Core.Path.{_≡_}
 use native.Mathlib.Nat.{pow-le-pow-right, mod-eq-of-lt}
 use native.Mathlib.Omega.{arith}
 use borrow.Author.Needs.{needs}
-use Rattle.due_search.proofs.bit_of.Statement.{statement}
-use Rattle.due_search.proofs.bit_of.Tie as tie
+use Rattle.pending_words.proofs.bit_of.Statement.{statement}
+use Rattle.pending_words.proofs.bit_of.Tie as tie
 
 cast-result : tie.Need-cast-result
 cast-result c = search needs

@@ -1,12 +1,12 @@
--- `due_search::below` meets its contract: a bit above all threads fits twice the word.
+-- `next_due::below` meets its contract: a bit above all threads fits twice the word.
 use Prim.Native.Nat.{_*_, _%_, _-_, _^_, _≤_}
 use mathlib.Core.Path.{_≡_}
 use native.Mathlib.Nat.{pow-le-pow-right, mod-eq-of-lt}
 use native.Mathlib.Omega.{arith}
 use borrow.Author.Needs.{needs}
 use lib.Pow.{pow-pos}
-use Rattle.due_search.proofs.below.Statement.{statement}
-use Rattle.due_search.proofs.below.Tie as tie
+use Rattle.next_due.proofs.below.Statement.{statement}
+use Rattle.next_due.proofs.below.Tie as tie
 
 cast-result : tie.Need-cast-result
 cast-result c = search needs
