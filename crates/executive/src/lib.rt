@@ -152,7 +152,7 @@ fn answer_event(
         let j = base::wide(number);
         let t = s.threads[j];
         reports::tell_back(told, j, changes::own_back(e, t));
-        let q = rows::pending_at(&s.counts, dues, amounts, j);
+        let q = pending_rows::pending_at(&s.counts, dues, amounts, j);
         let c = changes::change_of(e, t, q);
         let u = c.thread;
         let b = c.account;
@@ -160,7 +160,7 @@ fn answer_event(
         let changed = changes::served(u, b);
         s.threads[j] = changed;
         s.counts[j] = pending.count;
-        rows::write_pending(dues, amounts, j, pending);
+        pending_rows::write_pending(dues, amounts, j, pending);
         let word = s.word;
         s.word = changes::shift(&mut s.lists, word, number, c.from, c.to);
     }

@@ -134,15 +134,15 @@ fn change_rows(
         × (now (amounts .exit) ≡ withSlots i (slotsAfter first amount (slotFor due count (slotsAt i (now (dues .entry)))) count amount (slotsAt i (now (amounts .entry)))) (now (amounts .entry))) ⌝ }
 {
     if first {
-        rows::remove_first(dues, i);
-        rows::remove_first(amounts, i);
+        row_entries::remove_first(dues, i);
+        row_entries::remove_first(amounts, i);
         return;
     }
     if amount == 0 {
         return;
     }
     let n = wide(count);
-    rows::insert_entry(dues, amounts, i, n, due, amount);
+    row_entries::insert_entry(dues, amounts, i, n, due, amount);
 }
 
 // The state at the time t, with what is told of the way to it. Each turn charges the ticks up to the next moment and does one thing that happens at it: the

@@ -146,7 +146,7 @@ fn enter(c: Core, dues: &mut Slots, amounts: &mut Slots, k: u8, p: Parameters) -
     let served = thread::with_server(u, v);
     r.threads[i] = served;
     r.counts[i] = pending.count;
-    rows::write_pending(dues, amounts, i, pending);
+    pending_rows::write_pending(dues, amounts, i, pending);
     if p.flag == 0 {
         return r;
     }

@@ -1,3 +1,2 @@
 -- Laws of the slots.
 pub mod RowLaws
-pub mod InsertLaws

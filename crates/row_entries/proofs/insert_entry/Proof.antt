@@ -1,4 +1,4 @@
--- `rows::insert_entry` meets its contract. The invariant: the numbers after slot k are moved one slot down, and the slot is the one among the first k.
+-- `row_entries::insert_entry` meets its contract. The invariant: the numbers after slot k are moved one slot down, and the slot is the one among the first k.
 use Prim.Native.Nat.{ℕ, _-_, _≤_, _<_}
 use mathlib.Core.Path.{_≡_, refl, sym, ap, _∙_}
 use mathlib.Core.List.{List}
@@ -7,10 +7,10 @@ use native.Mathlib.Omega.{arith}
 use native.Mathlib.Decide.{ℕ-discrete}
 use Rattle.entries.specs.Entries.{slotFor, inserted}
 use Rattle.entries.proofs.InsertLaws.{slot-here, slot-earlier, slot-none}
 use Rattle.rows.specs.Rows.{slotsAt, withSlots}
-use Rattle.rows.proofs.InsertLaws.{movedAfter, moved-start, moved-before, moved-turn, moved-end}
-use Rattle.rows.proofs.insert_entry.Statement.{statement}
-use Rattle.rows.proofs.insert_entry.Tie as tie
+use Rattle.row_entries.proofs.InsertLaws.{movedAfter, moved-start, moved-before, moved-turn, moved-end}
+use Rattle.row_entries.proofs.insert_entry.Statement.{statement}
+use Rattle.row_entries.proofs.insert_entry.Tie as tie
 
 abbrev Inv-loop : tie.InvT-loop
 Inv-loop dues₀ amounts₀ i count due amount start k₀ dues amounts k =

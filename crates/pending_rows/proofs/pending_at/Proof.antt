@@ -1,13 +1,13 @@
--- `rows::pending_at` meets its contract: each row is what `read_row` gives.
+-- `pending_rows::pending_at` meets its contract: each row is what `read_row` gives.
 use mathlib.Core.Path.{ap, _∙_}
 use mathlib.Core.List.{List}
 use Prim.Native.Nat.{ℕ}
 use lib.ListN.{getD}
 use Rattle.account.specs.declared.Pending.{Pending}
 use Rattle.rows.specs.Rows.{slotsAt}
 use borrow.Author.Needs.{needs}
-use Rattle.rows.proofs.pending_at.Statement.{statement}
-use Rattle.rows.proofs.pending_at.Tie as tie
+use Rattle.pending_rows.proofs.pending_at.Statement.{statement}
+use Rattle.pending_rows.proofs.pending_at.Tie as tie
 
 abbrev made : ℕ → List ℕ → List ℕ → Pending
 made n ds xs = record { count = n; dues = ds; amounts = xs }

@@ -1,10 +1,10 @@
--- `rows::later_before` meets its contract.
+-- `row_entries::later_before` meets its contract.
 use native.Mathlib.Omega.{arith}
 use mathlib.Core.Path.{sym}
 use borrow.Author.Needs.{needs}
 use Rattle.base.proofs.TestLaws.{false-true}
-use Rattle.rows.proofs.later_before.Statement.{statement}
-use Rattle.rows.proofs.later_before.Tie as tie
+use Rattle.row_entries.proofs.later_before.Statement.{statement}
+use Rattle.row_entries.proofs.later_before.Tie as tie
 
 returns : tie.Need-returns
 returns c = (λ q. false-true q, λ q z. absurd (omega arith))

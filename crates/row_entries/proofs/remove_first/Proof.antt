@@ -1,12 +1,12 @@
--- `rows::remove_first` meets its contract.
+-- `row_entries::remove_first` meets its contract.
 use mathlib.Core.Path.{ap, _∙_}
 use mathlib.Core.List.{List}
 use Prim.Native.Nat.{ℕ}
 use borrow.Author.Needs.{needs}
 use Rattle.entries.specs.Entries.{withoutFirst}
 use Rattle.rows.specs.Rows.{withSlots}
-use Rattle.rows.proofs.remove_first.Statement.{statement}
-use Rattle.rows.proofs.remove_first.Tie as tie
+use Rattle.row_entries.proofs.remove_first.Statement.{statement}
+use Rattle.row_entries.proofs.remove_first.Tie as tie
 
 read-row-requires : tie.Need-read-row-requires
 read-row-requires c κs = search needs

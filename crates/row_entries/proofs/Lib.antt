@@ -1,0 +1,2 @@
+-- Laws of the rows while an entry comes.
+pub mod InsertLaws
