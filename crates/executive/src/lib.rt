@@ -115,17 +115,17 @@ fn answer_event(
     loop {
         let n = s.header.n as usize;
         let level = ready::highest(s.word);
-        let h = ticks::head_at(&s.lists, level);
+        let h = running::head_at(&s.lists, level);
         let i = base::wide(h);
         let runner = s.threads[i];
-        let next = ticks::next_moment(s.now, level, runner, &s.counts, dues, n);
+        let next = next_moment::next_moment(s.now, level, runner, &s.counts, dues, n);
         if done {
-            let runs = ticks::running(s.word, &s.lists);
+            let runs = running::running(s.word, &s.lists);
             return answers::answer_of(status, runs, next, s);
         }
         if judging {
             judging = false;
-            if ticks::due_by(next, e.time) {
+            if next_moment::due_by(next, e.time) {
                 status = carries::status_then(s, dues, amounts, e);
                 done = status != 0;
                 continue;
@@ -135,7 +135,7 @@ fn answer_event(
             done = status != 0;
             continue;
         }
-        if ticks::due_by(next, e.time) {
+        if next_moment::due_by(next, e.time) {
             s = moments::advance(s, dues, amounts, told, e.time);
             continue;
         }

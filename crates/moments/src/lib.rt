@@ -165,13 +165,13 @@ pub fn advance(
     let mut x = due_search::next_in_word(waiting, dues, 0);
     loop {
         let p = ready::highest(s.word);
-        let h = ticks::head_at(&s.lists, p);
+        let h = running::head_at(&s.lists, p);
         let i = wide(h);
         let before = s.threads[i];
-        let limit = ticks::limit_at(s.now, p, before);
-        let m = ticks::earlier_of(limit, x.due);
+        let limit = next_moment::limit_at(s.now, p, before);
+        let m = next_moment::earlier_of(limit, x.due);
         // no moment up to t: its ticks are all that is left
-        if !ticks::due_by(m, t) {
+        if !next_moment::due_by(m, t) {
             let k = t - s.now;
             let rest = ticks::charged_thread(p, k, before);
             s.threads[i] = rest;

@@ -181,12 +181,12 @@ fn opened_answer<'a>(c: Core, dues: &'a Slots, amounts: &'a Slots) -> Answer
     ensures { λ r. ⌜ answerOf r (now (dues .entry)) (now (amounts .entry)) ≡ answered 0 (whole c (now (dues .entry)) (now (amounts .entry))) ⌝ }
 {
     let level = ready::highest(c.word);
-    let h = ticks::head_at(&c.lists, level);
+    let h = running::head_at(&c.lists, level);
     let i = base::wide(h);
     let t = c.threads[i];
     let n = c.header.n as usize;
-    let runs = ticks::running(c.word, &c.lists);
-    let next = ticks::next_moment(c.now, level, t, &c.counts, dues, n);
+    let runs = running::running(c.word, &c.lists);
+    let next = next_moment::next_moment(c.now, level, t, &c.counts, dues, n);
     answers::answer_of(0, runs, next, c)
 }
 

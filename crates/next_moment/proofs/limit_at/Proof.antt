@@ -1,10 +1,10 @@
--- `ticks::limit_at` meets its contract.
+-- `next_moment::limit_at` meets its contract.
 use mathlib.Core.Path.{sym, _∙_}
 use borrow.Author.Tests.{eq-eqb, ne-eqb}
 use Rattle.base.proofs.TestLaws.{cond-true, cond-false}
 use borrow.Author.Needs.{needs}
-use Rattle.ticks.proofs.limit_at.Statement.{statement}
-use Rattle.ticks.proofs.limit_at.Tie as tie
+use Rattle.next_moment.proofs.limit_at.Statement.{statement}
+use Rattle.next_moment.proofs.limit_at.Tie as tie
 
 returns : tie.Need-returns
 returns c = sym (cond-true _ _ _ (eq-eqb _ _ (c .if1 .taken)))

@@ -1,12 +1,12 @@
--- `ticks::head_at` meets its contract.
+-- `running::head_at` meets its contract.
 use lib.Dec.{eqb}
 use native.Mathlib.Omega.{arith}
 use mathlib.Core.Path.{sym, _∙_}
 use borrow.Author.Tests.{eq-eqb, ne-eqb}
 use Rattle.base.proofs.TestLaws.{cond-true, cond-false}
 use Rattle.ready.specs.Rules.{Held}
-use Rattle.ticks.proofs.head_at.Statement.{statement}
-use Rattle.ticks.proofs.head_at.Tie as tie
+use Rattle.running.proofs.head_at.Statement.{statement}
+use Rattle.running.proofs.head_at.Tie as tie
 
 returns : tie.Need-returns
 returns c = let a = c .before .args in sym (cond-true (eqb (a .p) 0) _ _ (eq-eqb (a .p) 0 (omega arith)))

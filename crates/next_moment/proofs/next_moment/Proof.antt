@@ -1,14 +1,14 @@
--- `ticks::next_moment` meets its contract.
+-- `next_moment::next_moment` meets its contract.
 use Prim.Native.Nat.{ℕ}
 use mathlib.Core.Bool.{cond}
 use mathlib.Core.Path.{_≡_, ap, _∙_}
 use lib.Dec.{eqb}
 use borrow.Author.Needs.{needs}
 use Rattle.due_search.specs.declared.Due.{Due}
 use Rattle.ticks.specs.Running.{earlier, limitOf}
 use Rattle.due_search.specs.Search.{nextDue}
-use Rattle.ticks.proofs.next_moment.Statement.{statement}
-use Rattle.ticks.proofs.next_moment.Tie as tie
+use Rattle.next_moment.proofs.next_moment.Statement.{statement}
+use Rattle.next_moment.proofs.next_moment.Tie as tie
 
 next-due-requires : tie.Need-next-due-requires
 next-due-requires c κs = search needs

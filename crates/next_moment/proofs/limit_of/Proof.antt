@@ -1,10 +1,10 @@
--- `ticks::limit_of` meets its contract: each return is a policy.
+-- `next_moment::limit_of` meets its contract: each return is a policy.
 use native.Mathlib.Omega.{arith}
 use mathlib.Core.Path.{_≡_, sym}
 use borrow.Author.Needs.{needs}
 use Rattle.ticks.proofs.RunLaws.{limit-rr, limit-upper, limit-lower}
-use Rattle.ticks.proofs.limit_of.Statement.{statement}
-use Rattle.ticks.proofs.limit_of.Tie as tie
+use Rattle.next_moment.proofs.limit_of.Statement.{statement}
+use Rattle.next_moment.proofs.limit_of.Tie as tie
 
 returns : tie.Need-returns
 returns c = search needs

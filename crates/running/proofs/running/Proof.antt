@@ -1,4 +1,4 @@
--- `ticks::running` meets its contract.
+-- `running::running` meets its contract.
 use Prim.Native.Nat.{ℕ}
 use mathlib.Core.Bool.{cond}
 use mathlib.Core.Path.{_≡_, refl, sym, ap, subst⁻¹, _∙_}
@@ -9,8 +9,8 @@ use Rattle.ready.specs.Lists.{headOf}
 use Rattle.ready.specs.Word.{highestOf}
 use Rattle.ready.specs.Rules.{Held}
 use borrow.Author.Needs.{needs}
-use Rattle.ticks.proofs.running.Statement.{statement}
-use Rattle.ticks.proofs.running.Tie as tie
+use Rattle.running.proofs.running.Statement.{statement}
+use Rattle.running.proofs.running.Tie as tie
 
 highest-requires : tie.Need-highest-requires
 highest-requires c κs = search needs
