@@ -113,10 +113,10 @@ pub(super) fn shift(lists: &mut [u8; LIST_BYTES], word: u32, k: u8, from: u8, to
         if to == 0 {
             return word;
         }
-        return ready::append(lists, word, to, k);
+        return ready_tail::append(lists, word, to, k);
     }
     if to == 0 {
-        return ready::remove(lists, word, from, k);
+        return ready_removal::remove(lists, word, from, k);
     }
-    ready::move_to_tail(lists, word, k, from, to)
+    ready_tail::move_to_tail(lists, word, k, from, to)
 }

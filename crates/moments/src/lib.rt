@@ -66,14 +66,14 @@ fn send(lists: &mut [u8; LIST_BYTES], word: u32, i: u8, p: Parameters, x: Place)
             return word;
         }
         Place::Low => {
-            return ready::move_to_tail(lists, word, i, p.priority, p.low);
+            return ready_tail::move_to_tail(lists, word, i, p.priority, p.low);
         }
         Place::LowThenUpper => {
-            let w = ready::move_to_tail(lists, word, i, p.priority, p.low);
-            return ready::move_to_tail(lists, w, i, p.low, p.priority);
+            let w = ready_tail::move_to_tail(lists, word, i, p.priority, p.low);
+            return ready_tail::move_to_tail(lists, w, i, p.low, p.priority);
         }
         Place::Upper => {
-            return ready::move_to_tail(lists, word, i, p.low, p.priority);
+            return ready_tail::move_to_tail(lists, word, i, p.low, p.priority);
         }
     }
 }
@@ -188,7 +188,7 @@ pub fn advance(
             let full = with_full_quantum(after);
             s.threads[i] = full;
             let word = s.word;
-            s.word = ready::move_to_tail(&mut s.lists, word, h, p, p);
+            s.word = ready_tail::move_to_tail(&mut s.lists, word, h, p, p);
             reports::tell_quantum(told, i);
             continue;
         }

@@ -151,7 +151,7 @@ fn enter(c: Core, dues: &mut Slots, amounts: &mut Slots, k: u8, p: Parameters) -
         return r;
     }
     let word = r.word;
-    r.word = ready::append(&mut r.lists, word, p.priority, k);
+    r.word = ready_tail::append(&mut r.lists, word, p.priority, k);
     r
 }
 

@@ -60,7 +60,7 @@ fn append(c: Case, p: u8, i: u8) -> Case {
     if HIGHEST_PRIORITY < p {
         return c;
     }
-    let w = ready::append(&mut lists, word, p, i);
+    let w = ready_tail::append(&mut lists, word, p, i);
     places[at] = p;
     Case {
         lists: lists,
@@ -85,7 +85,7 @@ fn remove(c: Case, i: u8) -> Case {
     if p == 0 {
         return c;
     }
-    let w = ready::remove(&mut lists, word, p, i);
+    let w = ready_removal::remove(&mut lists, word, p, i);
     places[at] = 0;
     Case {
         lists: lists,
@@ -116,7 +116,7 @@ fn move_to_tail(c: Case, i: u8, p: u8) -> Case {
     if HIGHEST_PRIORITY < p {
         return c;
     }
-    let w = ready::move_to_tail(&mut lists, word, i, from, p);
+    let w = ready_tail::move_to_tail(&mut lists, word, i, from, p);
     places[at] = p;
     Case {
         lists: lists,

@@ -1,14 +1,14 @@
--- `ready::index_of` meets its contract: what stands before the first i from place j on, and j, is what stands before it in all.
+-- `ready_removal::index_of` meets its contract: what stands before the first i from place j on, and j, is what stands before it in all.
 use Prim.Native.Nat.{ℕ, _+_, _-_, _≤_, _<_}
 use mathlib.Core.Path.{_≡_, sym, _∙_}
 use mathlib.Core.List.{List, []}
 use native.Mathlib.Omega.{arith}
 use lib.ListN.{length, take, drop, getD, length-drop, drop-of-length-le}
 use lib.Seq.{length-take-le, getD-take, getD-drop}
 use Rattle.ready.specs.Private.{indexOf}
 use Rattle.ready.proofs.StepLaws.{index-here, index-next}
-use Rattle.ready.proofs.index_of.Statement.{statement}
-use Rattle.ready.proofs.index_of.Tie as tie
+use Rattle.ready_removal.proofs.index_of.Statement.{statement}
+use Rattle.ready_removal.proofs.index_of.Tie as tie
 
 -- the part that is searched: its length and its places
 part : (l : List ℕ) (at n : ℕ) → at + n ≤ 1056 → length l ≡ 1056 → length (take n (drop at l)) ≡ n

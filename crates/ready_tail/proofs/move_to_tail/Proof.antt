@@ -1,12 +1,12 @@
--- `ready::move_to_tail` meets its contract: the thread leaves, and then joins.
+-- `ready_tail::move_to_tail` meets its contract: the thread leaves, and then joins.
 use Prim.Native.Nat.{ℕ}
 use mathlib.Core.Path.{sym, ap, subst₂, _∙_}
 use mathlib.Core.List.{List}
 use Rattle.ready.specs.Lists.{appended}
 use Rattle.ready.specs.Word.{occupancy}
 use Rattle.ready.specs.Rules.{Joinable, Leavable, Movable}
-use Rattle.ready.proofs.move_to_tail.Statement.{statement}
-use Rattle.ready.proofs.move_to_tail.Tie as tie
+use Rattle.ready_tail.proofs.move_to_tail.Statement.{statement}
+use Rattle.ready_tail.proofs.move_to_tail.Tie as tie
 
 leaves : (word i from to : ℕ) (l : List ℕ) → Movable word i from to l → Leavable word from i l
 leaves word i from to l h = h .leaves

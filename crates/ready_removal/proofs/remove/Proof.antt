@@ -1,17 +1,17 @@
--- `ready::remove` meets its contract: the gap that the thread leaves is closed, and the word loses the bit of a list that empties.
+-- `ready_removal::remove` meets its contract: the gap that the thread leaves is closed, and the word loses the bit of a list that empties.
 use Prim.Native.Nat.{ℕ, _+_, _-_, _≤_, _<_}
 use mathlib.Core.Path.{_≡_, sym, ap, _∙_}
 use mathlib.Core.List.{List}
 use native.Mathlib.Omega.{arith}
 use lib.ListN.{set, getD}
 use Rattle.ready.specs.Lists.{threads, removed}
 use Rattle.ready.specs.Word.{sizeAt, occupancy}
 use Rattle.ready.specs.Private.{indexOf}
 use Rattle.ready.proofs.RowLaws.{size-read, remove-index, remove-stores}
 use Rattle.ready.proofs.ListLaws.{remove-clear, remove-same}
 use borrow.Author.Needs.{needs}
-use Rattle.ready.proofs.remove.Statement.{statement}
-use Rattle.ready.proofs.remove.Tie as tie
+use Rattle.ready_removal.proofs.remove.Statement.{statement}
+use Rattle.ready_removal.proofs.remove.Tie as tie
 
 -- the entry, where the row starts, and the array at entry and at exit
 abbrev entry : tie.After-wide → tie.Start

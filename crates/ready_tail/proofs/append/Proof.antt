@@ -1,17 +1,17 @@
--- `ready::append` meets its contract: two stores put the thread behind the last, and the word gains a bit where the list was empty.
+-- `ready_tail::append` meets its contract: two stores put the thread behind the last, and the word gains a bit where the list was empty.
 use Prim.Native.Nat.{ℕ, _+_}
 use mathlib.Core.Path.{_≡_, sym, ap, _∙_}
 use mathlib.Core.List.{List}
 use native.Mathlib.Omega.{arith}
 use borrow.Author.Needs.{needs}
 use lib.ListN.{set, getD}
 use Rattle.ready.specs.Lists.{appended}
 use Rattle.ready.specs.Word.{sizeAt, occupancy}
 use Rattle.ready.proofs.RowLaws.{size-read, append-stores}
 use Rattle.ready.proofs.WordLaws.{occupancy-lt}
 use Rattle.ready.proofs.ListLaws.{append-fill, append-same}
-use Rattle.ready.proofs.append.Statement.{statement}
-use Rattle.ready.proofs.append.Tie as tie
+use Rattle.ready_tail.proofs.append.Statement.{statement}
+use Rattle.ready_tail.proofs.append.Tie as tie
 
 -- the entry, where the row starts, and the array at entry and at exit
 abbrev entry : tie.After-wide → tie.Start

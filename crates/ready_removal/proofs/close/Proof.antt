@@ -1,11 +1,11 @@
--- `ready::close` meets its contract: the gap moves up to the end of the run.
+-- `ready_removal::close` meets its contract: the gap moves up to the end of the run.
 use Prim.Native.Nat.{_+_, _-_, _<_}
 use mathlib.Core.Path.{_≡_}
 use native.Mathlib.Omega.{arith}
 use lib.ListN.{length}
 use Rattle.ready.proofs.StepLaws.{upto, at-first, next-read, next-step, at-last}
-use Rattle.ready.proofs.close.Statement.{statement}
-use Rattle.ready.proofs.close.Tie as tie
+use Rattle.ready_removal.proofs.close.Statement.{statement}
+use Rattle.ready_removal.proofs.close.Tie as tie
 
 abbrev Inv-loop : tie.InvT-loop
 Inv-loop lists₀ at n last j₀ lists j = (j < n) × (lists ≡ upto lists₀ at j)
