@@ -34,12 +34,12 @@ fn change_to(t: Thread, a: Account, u: Thread, b: Account) -> Change
     ensures { λ r. ⌜ r ≡ becomes t a u b ⌝ }
 {
     let v = b.server;
-    let then = thread::with_server(u, v);
+    let then = thread_updates::with_server(u, v);
     Change {
         thread: u,
         account: b,
-        from: thread::assigned_place(t, a.pending.count),
-        to: thread::assigned_place(then, b.pending.count),
+        from: thread_place::assigned_place(t, a.pending.count),
+        to: thread_place::assigned_place(then, b.pending.count),
     }
 }
 
@@ -55,7 +55,7 @@ pub(super) fn change_of(e: Event, t: Thread, q: Pending) -> Change
         pending: q,
     };
     if e.kind == 1 {
-        let u = thread::with_blocked(t, 1);
+        let u = thread_updates::with_blocked(t, 1);
         let b = parts::after_block(e.time, t, a);
         return change_to(t, a, u, b);
     }
@@ -64,7 +64,7 @@ pub(super) fn change_of(e: Event, t: Thread, q: Pending) -> Change
         return change_to(t, a, u, a);
     }
     if e.kind == 3 {
-        let u = thread::with_blocked(thread::full_quantum(t), 0);
+        let u = thread_updates::with_blocked(thread::full_quantum(t), 0);
         let b = parts::after_wake(e.time, t, a);
         return change_to(t, a, u, b);
     }
@@ -97,7 +97,7 @@ pub(super) fn served(t: Thread, a: Account) -> Thread
     ensures { λ r. ⌜ r ≡ withServer (a .server) t ⌝ }
 {
     let v = a.server;
-    thread::with_server(t, v)
+    thread_updates::with_server(t, v)
 }
 
 // Thread k leaves list `from` and becomes the tail of list `to`, 0 for none; the answer is the word of the lists as they

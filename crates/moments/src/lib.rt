@@ -49,7 +49,7 @@ fn with_full_quantum(t: Thread) -> Thread
     ensures { λ r. ⌜ r ≡ withLeft (t .parameters .budget) t ⌝ }
 {
     let p = t.parameters;
-    thread::with_left(t, p.budget)
+    thread_updates::with_left(t, p.budget)
 }
 
 // Thread i goes where an account's rule sends it; the answer is the word of the lists as they then are.
@@ -208,7 +208,7 @@ pub fn advance(
         let parameters = w.parameters;
         let word = s.word;
         let number = narrow(j);
-        let changed = thread::with_server(w, served);
+        let changed = thread_updates::with_server(w, served);
         s.threads[j] = changed;
         s.word = send(&mut s.lists, word, number, parameters, place);
         let pending = account::count_after(first, amount, count);

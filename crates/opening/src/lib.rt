@@ -137,13 +137,13 @@ fn enter(c: Core, dues: &mut Slots, amounts: &mut Slots, k: u8, p: Parameters) -
     let i = base::wide(k);
     let q = without_flag(p);
     let none = c.threads[i];
-    let t = thread::with_blocked(none, starts_blocked(p.flag));
+    let t = thread_updates::with_blocked(none, starts_blocked(p.flag));
     let u = thread::renew(q, t);
     let b = account::new_account(q, c.now);
     let v = b.server;
     let pending = b.pending;
     let mut r = c;
-    let served = thread::with_server(u, v);
+    let served = thread_updates::with_server(u, v);
     r.threads[i] = served;
     r.counts[i] = pending.count;
     pending_rows::write_pending(dues, amounts, i, pending);

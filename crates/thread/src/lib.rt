@@ -1,16 +1,7 @@
-// One thread of a state: its fields, an updater for each, and the list in which it stands.
+// One thread of a state: its fields, and a thread with a full quantum or with new parameters.
 ghost use mathlib.Core.Path.{_≡_};
 ghost use Rattle.records.specs.Ranges.{byPolicy};
-ghost use Rattle.thread.specs.Thread.{
-  threadOf,
-  withBlocked,
-  withLeft,
-  withServer,
-  withRun,
-  fullQuantum,
-  renewed,
-  placeOf,
-};
+ghost use Rattle.thread.specs.Thread.{threadOf, fullQuantum, renewed};
 use records::Parameters;
 use sporadic::Server;
 
@@ -26,7 +17,7 @@ pub struct Thread {
 }
 
 // A thread of these parts: no other function lists its fields.
-fn thread_of(p: Parameters, blocked: u8, total: u64, left: u64, v: Server) -> Thread
+pub fn thread_of(p: Parameters, blocked: u8, total: u64, left: u64, v: Server) -> Thread
     ensures { λ r. ⌜ r ≡ threadOf p blocked total left v ⌝ }
 {
     Thread {
@@ -36,40 +27,6 @@ fn thread_of(p: Parameters, blocked: u8, total: u64, left: u64, v: Server) -> Th
         left: left,
         server: v,
     }
-}
-
-// A thread that is blocked (1) or runnable (0).
-pub fn with_blocked(t: Thread, blocked: u8) -> Thread
-    ensures { λ r. ⌜ r ≡ withBlocked blocked t ⌝ }
-{
-    let p = t.parameters;
-    let v = t.server;
-    thread_of(p, blocked, t.total, t.left, v)
-}
-
-// A thread with another quantum left.
-pub fn with_left(t: Thread, left: u64) -> Thread
-    ensures { λ r. ⌜ r ≡ withLeft left t ⌝ }
-{
-    let p = t.parameters;
-    let v = t.server;
-    thread_of(p, t.blocked, t.total, left, v)
-}
-
-// A thread with another server.
-pub fn with_server(t: Thread, v: Server) -> Thread
-    ensures { λ r. ⌜ r ≡ withServer v t ⌝ }
-{
-    let p = t.parameters;
-    thread_of(p, t.blocked, t.total, t.left, v)
-}
-
-// A thread with another run time, quantum left and server.
-pub fn with_run(t: Thread, total: u64, left: u64, v: Server) -> Thread
-    ensures { λ r. ⌜ r ≡ withRun total left v t ⌝ }
-{
-    let p = t.parameters;
-    thread_of(p, t.blocked, total, left, v)
 }
 
 // What an RR thread's quantum is when it is full, and x for any other thread, which has none.
@@ -101,21 +58,4 @@ pub fn renew(p: Parameters, t: Thread) -> Thread
 {
     let v = t.server;
     thread_of(p, t.blocked, t.total, quantum_or(p, 0), v)
-}
-
-// The list in which a thread stands that has `count` replenishments pending, 0 for none.
-pub fn assigned_place(t: Thread, count: u8) -> u8
-    ensures { λ r. ⌜ r ≡ placeOf t count ⌝ }
-{
-    if 0 < t.blocked {
-        return 0;
-    }
-    let p = t.parameters;
-    if p.policy < 2 {
-        return p.priority;
-    }
-    if sporadic::at_upper(p, t.server.capacity, count) {
-        return p.priority;
-    }
-    p.low
 }

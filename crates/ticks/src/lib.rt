@@ -27,13 +27,13 @@ fn ran_thread(p: u8, k: u64, t: Thread) -> Thread
     let v = t.server;
     let total = t.total + k;
     if q.policy == 0 {
-        return thread::with_run(t, total, t.left, v);
+        return thread_updates::with_run(t, total, t.left, v);
     }
     if q.policy == 1 {
-        return thread::with_run(t, total, t.left - k, v);
+        return thread_updates::with_run(t, total, t.left - k, v);
     }
     let w = sporadic::charge(v, charged_ticks(p, q.priority, k));
-    thread::with_run(t, total, t.left, w)
+    thread_updates::with_run(t, total, t.left, w)
 }
 
 // The same, unchanged where p is 0 because nothing runs.

@@ -1,4 +1,4 @@
--- `thread::assigned_place` meets its contract: a blocked thread has no list, and a sporadic one that is not at its upper priority the low one.
+-- `thread_place::assigned_place` meets its contract: a blocked thread has no list, and a sporadic one that is not at its upper priority the low one.
 use Prim.Native.Nat.{ℕ, _≤_, _<_}
 use native.Mathlib.Omega.{arith}
 use mathlib.Core.Bool.{false}
@@ -7,11 +7,11 @@ use borrow.Author.Needs.{needs}
 use borrow.Author.Tests.{lt-ltb, le-ltb}
 use Rattle.base.proofs.TestLaws.{cond-true, cond-false}
 use Rattle.sporadic.specs.Rules.{atUpper}
 use Rattle.thread.specs.declared.Thread.{Thread}
 use Rattle.thread.specs.Thread.{placeOf}
 use Rattle.records.proofs.PolicyLaws.{policy-low, policy-sporadic}
-use Rattle.thread.proofs.assigned_place.Statement.{statement}
-use Rattle.thread.proofs.assigned_place.Tie as tie
+use Rattle.thread_place.proofs.assigned_place.Statement.{statement}
+use Rattle.thread_place.proofs.assigned_place.Tie as tie
 
 module _ (t : Thread) (count : ℕ) where
   none : {r : ℕ} → r ≡ 0 → 0 < t .blocked → r ≡ placeOf t count

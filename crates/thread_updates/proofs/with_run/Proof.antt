@@ -1,12 +1,12 @@
--- `thread::with_run` meets its contract.
+-- `thread_updates::with_run` meets its contract.
 use Prim.Native.Nat.{ℕ}
 use mathlib.Core.Path.{_≡_}
 use borrow.Author.Needs.{needs}
 use Rattle.sporadic.specs.declared.Server.{Server}
 use Rattle.thread.specs.declared.Thread.{Thread}
 use Rattle.thread.specs.Thread.{threadOf, withRun}
-use Rattle.thread.proofs.with_run.Statement.{statement}
-use Rattle.thread.proofs.with_run.Tie as tie
+use Rattle.thread_updates.proofs.with_run.Statement.{statement}
+use Rattle.thread_updates.proofs.with_run.Tie as tie
 
 made : (t : Thread) (total left : ℕ) (v : Server) {r : Thread} → r ≡ threadOf (t .parameters) (t .blocked) total left v → r ≡ withRun total left v t
 made t total left v e = e

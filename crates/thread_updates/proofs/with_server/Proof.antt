@@ -1,11 +1,11 @@
--- `thread::with_server` meets its contract.
+-- `thread_updates::with_server` meets its contract.
 use mathlib.Core.Path.{_≡_}
 use borrow.Author.Needs.{needs}
 use Rattle.sporadic.specs.declared.Server.{Server}
 use Rattle.thread.specs.declared.Thread.{Thread}
 use Rattle.thread.specs.Thread.{threadOf, withServer}
-use Rattle.thread.proofs.with_server.Statement.{statement}
-use Rattle.thread.proofs.with_server.Tie as tie
+use Rattle.thread_updates.proofs.with_server.Statement.{statement}
+use Rattle.thread_updates.proofs.with_server.Tie as tie
 
 made : (t : Thread) (v : Server) {r : Thread} → r ≡ threadOf (t .parameters) (t .blocked) (t .total) (t .left) v → r ≡ withServer v t
 made t v e = e

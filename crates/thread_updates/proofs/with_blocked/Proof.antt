@@ -1,11 +1,11 @@
--- `thread::with_blocked` meets its contract.
+-- `thread_updates::with_blocked` meets its contract.
 use Prim.Native.Nat.{ℕ}
 use mathlib.Core.Path.{_≡_}
 use borrow.Author.Needs.{needs}
 use Rattle.thread.specs.declared.Thread.{Thread}
 use Rattle.thread.specs.Thread.{threadOf, withBlocked}
-use Rattle.thread.proofs.with_blocked.Statement.{statement}
-use Rattle.thread.proofs.with_blocked.Tie as tie
+use Rattle.thread_updates.proofs.with_blocked.Statement.{statement}
+use Rattle.thread_updates.proofs.with_blocked.Tie as tie
 
 made : (t : Thread) (blocked : ℕ) {r : Thread} → r ≡ threadOf (t .parameters) blocked (t .total) (t .left) (t .server) → r ≡ withBlocked blocked t
 made t blocked e = e

@@ -1,11 +1,11 @@
--- `thread::with_left` meets its contract.
+-- `thread_updates::with_left` meets its contract.
 use Prim.Native.Nat.{ℕ}
 use mathlib.Core.Path.{_≡_}
 use borrow.Author.Needs.{needs}
 use Rattle.thread.specs.declared.Thread.{Thread}
 use Rattle.thread.specs.Thread.{threadOf, withLeft}
-use Rattle.thread.proofs.with_left.Statement.{statement}
-use Rattle.thread.proofs.with_left.Tie as tie
+use Rattle.thread_updates.proofs.with_left.Statement.{statement}
+use Rattle.thread_updates.proofs.with_left.Tie as tie
 
 made : (t : Thread) (left : ℕ) {r : Thread} → r ≡ threadOf (t .parameters) (t .blocked) (t .total) left (t .server) → r ≡ withLeft left t
 made t left e = e
