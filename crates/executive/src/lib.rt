@@ -125,7 +125,7 @@ fn answer_event(
         }
         if judging {
             judging = false;
-            if next_moment::due_by(next, e.time) {
+            if moment_order::due_by(next, e.time) {
                 status = carries::status_then(s, dues, amounts, e);
                 done = status != 0;
                 continue;
@@ -135,7 +135,7 @@ fn answer_event(
             done = status != 0;
             continue;
         }
-        if next_moment::due_by(next, e.time) {
+        if moment_order::due_by(next, e.time) {
             s = moments::advance(s, dues, amounts, told, e.time);
             continue;
         }

@@ -169,9 +169,9 @@ pub fn advance(
         let i = wide(h);
         let before = s.threads[i];
         let limit = next_moment::limit_at(s.now, p, before);
-        let m = next_moment::earlier_of(limit, x.due);
+        let m = moment_order::earlier_of(limit, x.due);
         // no moment up to t: its ticks are all that is left
-        if !next_moment::due_by(m, t) {
+        if !moment_order::due_by(m, t) {
             let k = t - s.now;
             let rest = ticks::charged_thread(p, k, before);
             s.threads[i] = rest;

@@ -1,41 +1,14 @@
-// When the next moment is: the earlier of the running thread's limit and the next due, and whether it falls by a time.
+// When the next moment is: the earlier of the running thread's limit and the next due.
 ghost use mathlib.Core.Path.{_≡_};
 ghost use mathlib.Core.Bool.{cond};
 ghost use Prim.Native.Nat.{_+_, _<_, _≤_, _^_};
 ghost use lib.Dec.{eqb};
 ghost use Rattle.records.specs.Ranges.{mostThreads};
-ghost use Rattle.passing.specs.Time.{dueBy};
 ghost use Rattle.due_search.specs.Search.{nextDue};
 ghost use Rattle.ticks.specs.Running.{earlier, limitOf};
 use records::THREADS;
 use rows::SLOTS;
 use thread::Thread;
-
-// The earlier of two moments, 0 for none.
-pub fn earlier_of(a: u64, b: u64) -> u64
-    ensures { λ r. ⌜ r ≡ earlier a b ⌝ }
-{
-    if a == 0 {
-        return b;
-    }
-    if b == 0 {
-        return a;
-    }
-    if a < b {
-        return a;
-    }
-    b
-}
-
-// Whether there is a moment m and it falls at or before t.
-pub fn due_by(m: u64, t: u64) -> bool
-    ensures { λ r. ⌜ r ≡ dueBy m t ⌝ }
-{
-    if m == 0 {
-        return false;
-    }
-    m <= t
-}
 
 // When a thread that runs in list p reaches its limit or the end of its quantum, 0 for never.
 fn limit_of(time: u64, p: u8, t: Thread) -> u64
@@ -79,5 +52,5 @@ pub fn next_moment<'a>(
     ensures { λ r. ⌜ r ≡ earlier (cond (eqb p 0) 0 (limitOf time p t)) (nextDue (now (counts .entry)) (now (dues .entry)) n .due) ⌝ }
 {
     let x = next_due::next_due(counts, dues, n);
-    earlier_of(limit_at(time, p, t), x.due)
+    moment_order::earlier_of(limit_at(time, p, t), x.due)
 }

@@ -1,4 +1,4 @@
--- `next_moment::due_by` meets its contract.
+-- `moment_order::due_by` meets its contract.
 use Prim.Native.Nat.{ℕ, _<_}
 use mathlib.Core.Bool.{Bool, _&&_}
 use mathlib.Core.Path.{_≡_, sym, ap}
@@ -7,8 +7,8 @@ use borrow.Author.Tests.{lt-ltb}
 use native.Mathlib.Omega.{arith}
 use mathlib.Core.Path.{sym}
 use Rattle.passing.proofs.TimeLaws.{due-no}
-use Rattle.next_moment.proofs.due_by.Statement.{statement}
-use Rattle.next_moment.proofs.due_by.Tie as tie
+use Rattle.moment_order.proofs.due_by.Statement.{statement}
+use Rattle.moment_order.proofs.due_by.Tie as tie
 
 none : (m : ℕ) {A : Type 0} → m ≡ 0 → 0 < m → A
 none m e p = absurd (omega arith)

@@ -1,11 +1,11 @@
--- `next_moment::earlier_of` meets its contract: each return is a case of the definition.
+-- `moment_order::earlier_of` meets its contract: each return is a case of the definition.
 use Prim.Native.Nat.{ℕ, zero, suc}
 use native.Mathlib.Omega.{arith}
 use mathlib.Core.Path.{_≡_, refl, sym}
 use Rattle.ticks.specs.Running.{earlier}
 use Rattle.ticks.proofs.EarlierLaws.{earlier-none, earlier-first, earlier-second}
-use Rattle.next_moment.proofs.earlier_of.Statement.{statement}
-use Rattle.next_moment.proofs.earlier_of.Tie as tie
+use Rattle.moment_order.proofs.earlier_of.Statement.{statement}
+use Rattle.moment_order.proofs.earlier_of.Tie as tie
 
 first-none : (a b : ℕ) {r : ℕ} → r ≡ b → a ≡ 0 → r ≡ earlier a b
 first-none zero b e z = e
