@@ -104,7 +104,7 @@ pub fn block(p: Parameters, a: Account, blocked: bool, now: u64) -> Outcome
     ensures { λ r. ⌜ r ≡ blocking now blocked p a ⌝ }
 {
     let s = a.server;
-    outcome_of(sporadic::block_effect(p, s, blocked, now), a)
+    outcome_of(effects::block_effect(p, s, blocked, now), a)
 }
 
 // A blocked thread wakes.
@@ -112,10 +112,7 @@ pub fn wake(p: Parameters, a: Account, blocked: bool, now: u64) -> Outcome
     ensures { λ r. ⌜ r ≡ waking now blocked p a ⌝ }
 {
     let s = a.server;
-    outcome_of(
-        sporadic::wake_effect(p, s, a.pending.count, blocked, now),
-        a,
-    )
+    outcome_of(effects::wake_effect(p, s, a.pending.count, blocked, now), a)
 }
 
 // An account that is carried over to new parameters: the entries stay.
@@ -126,7 +123,7 @@ fn carry(old: Parameters, new: Parameters, a: Account, blocked: bool, now: u64) 
     let s = a.server;
     let q = a.pending;
     Account {
-        server: sporadic::carry_server(old, new, s, q.count, blocked, now),
+        server: carrying::carry_server(old, new, s, q.count, blocked, now),
         pending: q,
     }
 }

@@ -26,7 +26,7 @@ pub fn limit_reached(p: Parameters, a: Account, blocked: bool, now: u64) -> Outc
     ensures { λ r. ⌜ r ≡ outcome (limitEffect now blocked p (a .server)) a ⌝ }
 {
     let s = a.server;
-    account::outcome_of(sporadic::limit_effect(p, s, blocked, now), a)
+    account::outcome_of(effects::limit_effect(p, s, blocked, now), a)
 }
 
 // Whether the first pending replenishment is due.
@@ -45,7 +45,7 @@ fn return_first(p: Parameters, a: Account, blocked: bool, now: u64) -> Effect
 {
     let s = a.server;
     let q = a.pending;
-    sporadic::return_effect(p, s, q.count, q.amounts[0], blocked, now)
+    effects::return_effect(p, s, q.count, q.amounts[0], blocked, now)
 }
 
 // Every pending replenishment that is due comes back, one after the other.

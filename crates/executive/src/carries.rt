@@ -36,7 +36,7 @@ fn carry_status(e: Event, t: Thread, count: u8) -> u8
     if carries_over(e.kind, t.parameters.policy, e.parameters.policy) {
         let old = t.parameters;
         let new = e.parameters;
-        if sporadic::cant_carry(old, new, t.server.capacity, count, 0 < t.blocked) {
+        if carrying::cant_carry(old, new, t.server.capacity, count, 0 < t.blocked) {
             return base::NOT_CARRIED;
         }
         return 0;

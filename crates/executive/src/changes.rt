@@ -88,7 +88,7 @@ pub(super) fn own_back(e: Event, t: Thread) -> u64
     }
     let p = t.parameters;
     let v = t.server;
-    let effect = sporadic::block_effect(p, v, false, e.time);
+    let effect = effects::block_effect(p, v, false, e.time);
     effect.back
 }
 

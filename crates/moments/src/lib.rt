@@ -114,9 +114,9 @@ fn effect_at(limited: bool, time: u64, t: Thread, count: u8, amount: u64) -> Eff
     let p = t.parameters;
     let v = t.server;
     if limited {
-        return sporadic::limit_effect(p, v, false, time);
+        return effects::limit_effect(p, v, false, time);
     }
-    sporadic::return_effect(p, v, count, amount, 0 < t.blocked, time)
+    effects::return_effect(p, v, count, amount, 0 < t.blocked, time)
 }
 
 // Thread i's dues and amounts after it; an entry that came, of this due time and amount, stands where its due time belongs.
