@@ -89,7 +89,7 @@ fn sound_number<'a>(c: Core, dues: &'a Slots, amounts: &'a Slots) -> u8
     // lent as slices, so that their lengths are known
     rows::slots(dues);
     rows::slots(amounts);
-    if state::sound(c, dues, amounts) {
+    if state_sound::sound(c, dues, amounts) {
         return 1;
     }
     0

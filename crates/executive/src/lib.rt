@@ -49,7 +49,7 @@ fn tested<'a>(
     // lent as slices, so that their lengths are known
     rows::slots(dues);
     rows::slots(amounts);
-    state::sound_parts(
+    parts_sound::sound_parts(
         header,
         time,
         idle,

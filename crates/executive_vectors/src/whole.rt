@@ -81,5 +81,5 @@ pub(super) fn event(s: State, e: Event) -> Answered {
 pub(super) fn sound(s: State) -> bool {
     let dues = s.dues;
     let amounts = s.amounts;
-    state::sound(core_of(s), &dues, &amounts)
+    state_sound::sound(core_of(s), &dues, &amounts)
 }

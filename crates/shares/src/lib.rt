@@ -108,7 +108,7 @@ pub fn share_of<'a>(c: Core, dues: &'a Slots, amounts: &'a Slots, thread: u8) ->
     // lent as slices, so that their lengths are known
     rows::slots(dues);
     rows::slots(amounts);
-    if !state::sound(c, dues, amounts) {
+    if !state_sound::sound(c, dues, amounts) {
         return Share::Refused(base::NOT_SOUND);
     }
     if c.header.n <= thread as u32 {
@@ -129,7 +129,7 @@ pub fn summary_of<'a>(c: Core, dues: &'a Slots, amounts: &'a Slots) -> Summarize
 {
     rows::slots(dues);
     rows::slots(amounts);
-    if !state::sound(c, dues, amounts) {
+    if !state_sound::sound(c, dues, amounts) {
         return Summarized::Refused(base::NOT_SOUND);
     }
     let elapsed = c.now - c.header.start;

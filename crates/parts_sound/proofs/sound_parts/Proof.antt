@@ -1,4 +1,4 @@
--- `state::sound_parts` meets its contract: a part that fails makes the list of tests false, and where the others hold the
+-- `parts_sound::sound_parts` meets its contract: a part that fails makes the list of tests false, and where the others hold the
 -- run times decide.
 use Prim.Native.Nat.{ℕ, _+_, _-_, _≤_, _<_}
 use mathlib.Core.Bool.{Bool, true, false, not}
@@ -15,15 +15,15 @@ use Rattle.base.specs.Tests.{all, below}
 use Rattle.base.proofs.TestLaws.{tests, all-false, false-true, never-true, below-at, at-below}
 use Rattle.ready.specs.Sound.{soundLists}
 use Rattle.thread.specs.declared.Thread.{Thread}
 use Rattle.state.specs.declared.State.{State}
 use Rattle.state.specs.State.{threadAt, pendingAt, place}
 use Rattle.state.specs.Sound.{threadTest, presentTest, absentTest, totals, soundTests, soundState}
 use Rattle.state.specs.Updates.{stateOf}
 use Rattle.state.proofs.TestLaws.{decided-true, decided-false, _and_, by-last, below-next, below-false, eqb-same}
 use Rattle.state.proofs.ThreadLaws.{Filled, fill-next, fill-end, totals-next}
 use Rattle.state.proofs.AbsentLaws.{noThreadTests, at-absent, at-present, none-in, none-thread, none-slots, none-run, absent-place, absent-total}
-use Rattle.state.proofs.sound_parts.Statement.{statement}
-use Rattle.state.proofs.sound_parts.Tie as tie
+use Rattle.parts_sound.proofs.sound_parts.Statement.{statement}
+use Rattle.parts_sound.proofs.sound_parts.Tie as tie
 
 -- the start time, all run times and the idle time
 abbrev sum : State → ℕ

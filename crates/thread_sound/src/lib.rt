@@ -1,17 +1,14 @@
-// What soundness asks of one thread, for any contents.
+// Whether a thread below N is sound, with its slots, for any contents. No state.
 ghost use mathlib.Core.Path.{_≡_};
-ghost use mathlib.Core.List.{[], _∷_, _++_};
-ghost use lib.Dec.{eqb};
-ghost use Prim.Native.Nat.{_-_, _*_, _≤_, _<_};
+ghost use mathlib.Core.List.{[], _∷_};
+ghost use Prim.Native.Nat.{_-_, _≤_, _<_};
 ghost use lib.ListN.{length, take, drop};
 ghost use Rattle.base.specs.Tests.{all, zeros};
 ghost use Rattle.records.specs.Ranges.{mostThreads};
-ghost use Rattle.account.specs.Account.{entries};
 ghost use Rattle.rows.specs.Rows.{allSlots, pendingOf};
-ghost use Rattle.state.specs.Sound.{serverTests, leftTests, presentFields, absentFields, presentTest};
+ghost use Rattle.state.specs.Sound.{serverTests, leftTests, presentFields, presentTest};
 use account::ENTRIES;
 use records::THREADS;
-use rows::SLOTS;
 use sporadic::Server;
 use thread::Thread;
 
@@ -61,24 +58,6 @@ fn present_fields(t: Thread) -> bool
     left_holds(t)
 }
 
-// A byte as a word.
-fn long(x: u8) -> u64
-    ensures { λ r. ⌜ r ≡ x ⌝ }
-{
-    x as u64
-}
-
-// Whether a place from N on holds no thread; its slots are asked apart. All its bits are put together: one test for each place.
-pub(super) fn no_thread(t: Thread, count: u8) -> bool
-    ensures { λ r. ⌜ r ≡ all (absentFields t ++ (serverTests (t .server) ++ (eqb count 0 ∷ []))) ⌝ }
-{
-    let p = t.parameters;
-    let s = t.server;
-    let bytes = p.policy | p.priority | p.low | p.max_repl | t.blocked | count;
-    let words = p.budget | p.period | t.total | t.left | s.capacity | s.used | s.activation;
-    (words | (p.flag as u64) | long(bytes)) == 0
-}
-
 // Whether no slot from `from` on up to `end` holds a number.
 fn clear_slots<'a>(from: usize, end: usize, dues: &'a [u64], amounts: &'a [u64]) -> bool
     requires { ⌜ (from ≤ end) × (end ≤ allSlots) × (length (now dues) ≡ allSlots) × (length (now amounts) ≡ allSlots) ⌝ }
@@ -87,17 +66,8 @@ fn clear_slots<'a>(from: usize, end: usize, dues: &'a [u64], amounts: &'a [u64])
     account_sound::clear(&dues[from..end], &amounts[from..end])
 }
 
-// Whether no slot from thread n on holds a number.
-pub(super) fn no_slots<'a>(n: usize, dues: &'a [u64], amounts: &'a [u64]) -> bool
-    requires { ⌜ (n ≤ mostThreads) × (length (now dues) ≡ allSlots) × (length (now amounts) ≡ allSlots) ⌝ }
-    ensures { λ r. ⌜ r ≡ all (all (zeros (drop (n * entries) (now (dues .entry)))) ∷ all (zeros (drop (n * entries) (now (amounts .entry)))) ∷ []) ⌝ }
-{
-    let from = n * ENTRIES;
-    clear_slots(from, SLOTS, dues, amounts)
-}
-
 // Whether thread i, below N, is sound.
-pub(super) fn thread_holds<'a>(
+pub fn thread_holds<'a>(
     start: u64,
     time: u64,
     t: Thread,

@@ -1,4 +1,4 @@
--- `state::tests::left_holds` meets its contract.
+-- `thread_sound::left_holds` meets its contract.
 use Prim.Native.Nat.{ℕ}
 use mathlib.Core.Bool.{Bool}
 use mathlib.Core.List.{List, [], _∷_}
@@ -9,10 +9,10 @@ use Rattle.base.specs.Tests.{all}
 use Rattle.records.specs.Ranges.{byPolicy}
 use Rattle.base.proofs.TestLaws.{all-false, all-one}
 use Rattle.thread.specs.declared.Thread.{Thread}
 use Rattle.state.specs.Sound.{leftTests}
 use Rattle.records.proofs.PolicyLaws.{policy-not-rr}
-use Rattle.state.proofs.tests.left_holds.Statement.{statement}
-use Rattle.state.proofs.tests.left_holds.Tie as tie
+use Rattle.thread_sound.proofs.left_holds.Statement.{statement}
+use Rattle.thread_sound.proofs.left_holds.Tie as tie
 
 module _ (t : Thread) where
   abbrev zero : List Bool

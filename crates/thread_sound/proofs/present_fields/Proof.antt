@@ -1,14 +1,14 @@
--- `state::tests::present_fields` meets its contract.
+-- `thread_sound::present_fields` meets its contract.
 use Prim.Native.Nat.{_≤_, _<_}
 use mathlib.Core.Path.{sym}
 use native.Mathlib.Omega.{arith}
 use borrow.Author.Needs.{needs}
 use borrow.Author.Tests.{eq-eqb, ne-eqb, le-leb, lt-leb}
 use Rattle.base.proofs.TestLaws.{all-false}
 use Rattle.state.specs.Sound.{presentFields}
 use Rattle.state.proofs.TestLaws.{decided-true, decided-false, _and_, by-last}
-use Rattle.state.proofs.tests.present_fields.Statement.{statement}
-use Rattle.state.proofs.tests.present_fields.Tie as tie
+use Rattle.thread_sound.proofs.present_fields.Statement.{statement}
+use Rattle.thread_sound.proofs.present_fields.Tie as tie
 
 in-range-requires : tie.Need-in-range-requires
 in-range-requires c κs = search needs

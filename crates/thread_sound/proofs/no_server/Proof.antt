@@ -1,11 +1,11 @@
--- `state::tests::no_server` meets its contract.
+-- `thread_sound::no_server` meets its contract.
 use mathlib.Core.Path.{refl, sym}
 use borrow.Author.Tests.{eq-eqb, ne-eqb}
 use Rattle.base.proofs.TestLaws.{all-false}
 use Rattle.state.specs.Sound.{serverTests}
 use Rattle.state.proofs.TestLaws.{_and_, by-last}
-use Rattle.state.proofs.tests.no_server.Statement.{statement}
-use Rattle.state.proofs.tests.no_server.Tie as tie
+use Rattle.thread_sound.proofs.no_server.Statement.{statement}
+use Rattle.thread_sound.proofs.no_server.Tie as tie
 
 returns : tie.Need-returns
 returns c = sym (all-false _ 0 (ne-eqb _ _ (c .if1 .taken)))

@@ -1,12 +1,12 @@
--- `state::tests::no_thread` meets its contract: no bit, no thread.
+-- `thread_absent::no_thread` meets its contract: no bit, no thread.
 use Prim.Native.Nat.{ℕ}
 use mathlib.Core.Path.{ap, _∙_}
 use borrow.Author.Needs.{needs}
 use lib.Bits.{bitOr}
 use lib.Dec.{eqb}
 use Rattle.state.proofs.AbsentLaws.{wordsOf, no-bits}
-use Rattle.state.proofs.tests.no_thread.Statement.{statement}
-use Rattle.state.proofs.tests.no_thread.Tie as tie
+use Rattle.thread_absent.proofs.no_thread.Statement.{statement}
+use Rattle.thread_absent.proofs.no_thread.Tie as tie
 
 cast-result : tie.Need-cast-result
 cast-result c = search needs

@@ -1,7 +1,7 @@
--- `state::sound` meets its contract: what is tested are the parts of the state.
+-- `state_sound::sound` meets its contract: what is tested are the parts of the state.
 use borrow.Author.Needs.{needs}
-use Rattle.state.proofs.sound.Statement.{statement}
-use Rattle.state.proofs.sound.Tie as tie
+use Rattle.state_sound.proofs.sound.Statement.{statement}
+use Rattle.state_sound.proofs.sound.Tie as tie
 
 sound-parts-requires : tie.Need-sound-parts-requires
 sound-parts-requires c κs = search needs

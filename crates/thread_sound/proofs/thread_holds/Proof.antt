@@ -1,4 +1,4 @@
--- `state::tests::thread_holds` meets its contract: the thread's fields, and then its account.
+-- `thread_sound::thread_holds` meets its contract: the thread's fields, and then its account.
 use Prim.Native.Nat.{ℕ, _+_, _-_, _*_, _≤_, _<_}
 use mathlib.Core.Bool.{Bool, true, false, cond}
 use mathlib.Core.Path.{_≡_, sym, ap, ap₂, _∙_}
@@ -16,11 +16,11 @@ use Rattle.account_sound.specs.Lent.{accountOf}
 use Rattle.rows.specs.Rows.{slotsAt, pendingOf}
 use Rattle.thread.specs.declared.Thread.{Thread}
 use Rattle.thread.specs.Thread.{isBlocked}
 use Rattle.state.specs.Sound.{serverTests, noAccountTests, accountTest, presentFields, presentTest}
 use Rattle.state.proofs.TestLaws.{decided-true, decided-false, all-append}
 use Rattle.records.proofs.PolicyLaws.{policy-low, policy-sporadic}
-use Rattle.state.proofs.tests.thread_holds.Statement.{statement}
-use Rattle.state.proofs.tests.thread_holds.Tie as tie
+use Rattle.thread_sound.proofs.thread_holds.Statement.{statement}
+use Rattle.thread_sound.proofs.thread_holds.Tie as tie
 
 -- what is lent are thread i's slots
 lent : (i : ℕ) (xs : List ℕ) → take (i * 8 + 8 - i * 8) (drop (i * 8) xs) ≡ slotsAt i xs
