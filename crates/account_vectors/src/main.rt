@@ -152,7 +152,7 @@ fn due(p: Parameters, a: Account, blocked: bool, now: u64) -> Account {
 fn replay() {
     title(b"replay");
     let p = sporadic(10, 40, 2);
-    let a = account::fresh(p, 0);
+    let a = account_making::fresh(p, 0);
     let b = run(p, a, 6, 6);
     let c = block(p, b, false, 6);
     let d = wake(p, c, true, 15);
@@ -169,7 +169,7 @@ fn replay() {
 fn one_pending() {
     title(b"max_repl 1");
     let p = sporadic(10, 40, 1);
-    let a = account::fresh(p, 0);
+    let a = account_making::fresh(p, 0);
     let b = run(p, a, 3, 3);
     let c = block(p, b, false, 3);
     let d = wake(p, c, true, 5);
@@ -181,7 +181,7 @@ fn one_pending() {
 fn budget_is_period() {
     title(b"budget = period");
     let p = sporadic(10, 10, 2);
-    let a = account::fresh(p, 0);
+    let a = account_making::fresh(p, 0);
     let b = run(p, a, 10, 10);
     limit(p, b, false, 10);
 }
@@ -190,7 +190,7 @@ fn budget_is_period() {
 fn preempted() {
     title(b"preempted");
     let p = sporadic(10, 12, 2);
-    let a = account::fresh(p, 0);
+    let a = account_making::fresh(p, 0);
     let b = run(p, a, 4, 4);
     let c = run(p, b, 6, 26);
     limit(p, c, false, 26);
@@ -200,7 +200,7 @@ fn preempted() {
 fn wake_and_block() {
     title(b"wake and block");
     let p = sporadic(10, 40, 2);
-    let a = account::fresh(p, 0);
+    let a = account_making::fresh(p, 0);
     let b = block(p, a, false, 0);
     let c = wake(p, b, true, 7);
     block(p, c, false, 7);
@@ -234,7 +234,7 @@ fn made(
 fn edges() {
     title(b"due one tick later is pending, due now comes back at once");
     let p = sporadic(10, 10, 2);
-    let a = account::fresh(p, 0);
+    let a = account_making::fresh(p, 0);
     let b = run(p, a, 4, 9);
     block(p, b, false, 9);
     block(p, b, false, 10);

@@ -71,7 +71,7 @@ pub(super) fn change_of(e: Event, t: Thread, q: Pending) -> Change
     let p = e.parameters;
     let u = thread::renew(p, t);
     let old = t.parameters;
-    let b = account::set_account(old, p, a, 0 < t.blocked, e.time);
+    let b = account_making::set_account(old, p, a, 0 < t.blocked, e.time);
     change_to(t, a, u, b)
 }
 

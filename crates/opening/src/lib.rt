@@ -139,7 +139,7 @@ fn enter(c: Core, dues: &mut Slots, amounts: &mut Slots, k: u8, p: Parameters) -
     let none = c.threads[i];
     let t = thread_updates::with_blocked(none, starts_blocked(p.flag));
     let u = thread::renew(q, t);
-    let b = account::new_account(q, c.now);
+    let b = account_making::new_account(q, c.now);
     let v = b.server;
     let pending = b.pending;
     let mut r = c;

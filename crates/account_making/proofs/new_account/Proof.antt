@@ -1,9 +1,9 @@
--- `account::new_account` meets its contract.
+-- `account_making::new_account` meets its contract.
 use borrow.Author.Needs.{needs}
 use mathlib.Core.Path.{sym, _∙_}
 use Rattle.records.proofs.PolicyLaws.{policy-low, policy-sporadic}
-use Rattle.account.proofs.new_account.Statement.{statement}
-use Rattle.account.proofs.new_account.Tie as tie
+use Rattle.account_making.proofs.new_account.Statement.{statement}
+use Rattle.account_making.proofs.new_account.Tie as tie
 
 unused-requires : tie.Need-unused-requires
 unused-requires c κs = search needs

@@ -1,8 +1,8 @@
--- `account::carry` meets its contract.
+-- `account_making::carry` meets its contract.
 use borrow.Author.Needs.{needs}
 use Rattle.account.specs.Carry.{carried}
-use Rattle.account.proofs.carry.Statement.{statement}
-use Rattle.account.proofs.carry.Tie as tie
+use Rattle.account_making.proofs.carry.Statement.{statement}
+use Rattle.account_making.proofs.carry.Tie as tie
 
 carry-server-requires : tie.Need-carry-server-requires
 carry-server-requires c κs = search needs

@@ -1,7 +1,7 @@
--- `account::fresh` meets its contract.
+-- `account_making::fresh` meets its contract.
 use borrow.Author.Needs.{needs}
-use Rattle.account.proofs.fresh.Statement.{statement}
-use Rattle.account.proofs.fresh.Tie as tie
+use Rattle.account_making.proofs.fresh.Statement.{statement}
+use Rattle.account_making.proofs.fresh.Tie as tie
 
 unused-requires : tie.Need-unused-requires
 unused-requires c κs = search needs
