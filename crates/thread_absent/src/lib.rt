@@ -36,5 +36,5 @@ pub fn no_slots<'a>(n: usize, dues: &'a [u64], amounts: &'a [u64]) -> bool
     ensures { λ r. ⌜ r ≡ all (all (zeros (drop (n * entries) (now (dues .entry)))) ∷ all (zeros (drop (n * entries) (now (amounts .entry)))) ∷ []) ⌝ }
 {
     let from = n * ENTRIES;
-    account_sound::clear(&dues[from..], &amounts[from..])
+    slots_clear::clear(&dues[from..], &amounts[from..])
 }

@@ -63,7 +63,7 @@ fn clear_slots<'a>(from: usize, end: usize, dues: &'a [u64], amounts: &'a [u64])
     requires { ⌜ (from ≤ end) × (end ≤ allSlots) × (length (now dues) ≡ allSlots) × (length (now amounts) ≡ allSlots) ⌝ }
     ensures { λ r. ⌜ r ≡ all (all (zeros (take (end - from) (drop from (now (dues .entry))))) ∷ all (zeros (take (end - from) (drop from (now (amounts .entry))))) ∷ []) ⌝ }
 {
-    account_sound::clear(&dues[from..end], &amounts[from..end])
+    slots_clear::clear(&dues[from..end], &amounts[from..end])
 }
 
 // Whether thread i, below N, is sound.
@@ -87,7 +87,7 @@ pub fn thread_holds<'a>(
     let from = i * ENTRIES;
     let end = from + ENTRIES;
     if 1 < p.policy {
-        return account_sound::sound_lent(
+        return account_lent::sound_lent(
             p,
             s,
             counts[i],

@@ -6,7 +6,7 @@ use Prim.Native.Nat.{ℕ}
 use Rattle.records.specs.declared.Parameters.{Parameters}
 use Rattle.account.specs.declared.Account.{Account}
 use Rattle.account.specs.Sound.{soundAt}
-use Rattle.account_sound.specs.Lent.{accountOf}
+use Rattle.account_lent.specs.Lent.{accountOf}
 use Rattle.account_sound.proofs.sound.Statement.{statement}
 use Rattle.account_sound.proofs.sound.Tie as tie
 

@@ -12,7 +12,7 @@ use Rattle.base.specs.Tests.{all, zeros}
 use Rattle.base.proofs.TestLaws.{all-false, all-one, cond-true, cond-false}
 use Rattle.account.specs.declared.Pending.{Pending}
 use Rattle.account.specs.Sound.{soundAt}
-use Rattle.account_sound.specs.Lent.{accountOf}
+use Rattle.account_lent.specs.Lent.{accountOf}
 use Rattle.rows.specs.Rows.{slotsAt, pendingOf}
 use Rattle.thread.specs.declared.Thread.{Thread}
 use Rattle.thread.specs.Thread.{isBlocked}

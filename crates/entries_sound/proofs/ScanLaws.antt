@@ -1,5 +1,5 @@
 -- How a test over all places is taken place by place: what is left gives the whole answer.
-use Prim.Native.Nat.{ℕ, suc, _+_, _-_, _≤_, _<_}
+use Prim.Native.Nat.{ℕ, _+_, _-_, _≤_, _<_}
 use mathlib.Core.Bool.{Bool, true, false, cond}
 use mathlib.Core.Path.{_≡_, refl, sym, ap, _∙_}
 use mathlib.Core.List.{List, [], _∷_}
@@ -9,10 +9,8 @@ use lib.Dec.{eqb}
 use native.Mathlib.Numerals.{add-one}
 use native.Mathlib.Omega.{arith}
 use borrow.Author.Tests.{le-leb, lt-leb, eq-eqb, ne-eqb, eqb-true, eqb-false}
-use Rattle.base.specs.Tests.{all, zeros}
-use lib.Bits.{bitOr}
+use Rattle.base.specs.Tests.{all}
 use Rattle.base.proofs.TestLaws.{all-false}
-use Rattle.base.proofs.ZeroLaws.{or-none}
 use Rattle.account.specs.Sound.{sum, amountTests, dueTests}
 
 -- a test of the places from i on, by the one at i
@@ -68,22 +66,3 @@ amount-end budget left h = go (eqb left 0) refl
     go : (b : Bool) → eqb left 0 ≡ b → b ≡ cond (eqb (budget - left + 0) budget) true false
     go true e = sym (ap (λ (c : Bool). cond c true false) (eq-eqb (budget - left + 0) budget (omega (arith, eqb-true left 0 e))))
     go false e = sym (ap (λ (c : Bool). cond c true false) (ne-eqb (budget - left + 0) budget (λ q. eqb-false left 0 e (omega arith))))
-
--- the bits of one number more of each of two lists, and then what is left of both
-abbrev pub bothClear : ℕ → List ℕ → List ℕ → Bool
-bothClear bits xs ys = cond (eqb bits 0) (all (all (zeros xs) ∷ all (zeros ys) ∷ [])) false
-
-pub clear-step : (bits i : ℕ) (xs ys : List ℕ) → i < length xs → i < length ys
-    → bothClear (bitOr (bitOr bits (getD xs i 0)) (getD ys i 0)) (drop (i + 1) xs) (drop (i + 1) ys) ≡ bothClear bits (drop i xs) (drop i ys)
-unfolding all
-clear-step bits i xs ys h k =
-    rw (drop-cons xs i 0 h, drop-cons ys i 0 k, add-one i, or-none (bitOr bits (getD xs i 0)) (getD ys i 0), or-none bits (getD xs i 0))
-    (go (eqb bits 0) (eqb (getD xs i 0) 0) (eqb (getD ys i 0) 0) (all (zeros (drop (suc i) xs))) (all (zeros (drop (suc i) ys))))
-  where
-    go : (b x y t u : Bool)
-        → cond (cond (cond b x false) y false) (cond t (cond u true false) false) false ≡ cond b (cond (cond x t false) (cond (cond y u false) true false) false) false
-    go true true true t u = refl
-    go true true false true u = refl
-    go true true false false u = refl
-    go true false y t u = refl
-    go false x y t u = refl

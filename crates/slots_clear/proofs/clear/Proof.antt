@@ -1,4 +1,4 @@
--- `account_sound::clear` meets its contract: the bits that were seen and what is left to test give the whole answer.
+-- `slots_clear::clear` meets its contract: the bits that were seen and what is left to test give the whole answer.
 use Prim.Native.Nat.{ℕ, _-_, _≤_}
 use mathlib.Core.Path.{_≡_, refl, sym, ap₂, _∙_}
 use mathlib.Core.List.{List, []}
@@ -7,9 +7,9 @@ use lib.ListN.{length, drop, drop-of-length-le}
 use lib.Dec.{eqb}
 use Rattle.base.specs.Tests.{all}
 use Rattle.base.proofs.TestLaws.{all-one}
-use Rattle.account_sound.proofs.ScanLaws.{bothClear, clear-step}
-use Rattle.account_sound.proofs.clear.Statement.{statement}
-use Rattle.account_sound.proofs.clear.Tie as tie
+use Rattle.slots_clear.proofs.ClearLaws.{bothClear, clear-step}
+use Rattle.slots_clear.proofs.clear.Statement.{statement}
+use Rattle.slots_clear.proofs.clear.Tie as tie
 
 abbrev Inv-loop : tie.InvT-loop
 Inv-loop dues amounts bits₀ j₀ bits j =

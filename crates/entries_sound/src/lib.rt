@@ -1,61 +1,15 @@
-// What soundness asks of one account, for any contents: sums are compared by differences, so that none wraps.
+// What soundness asks of an account's pending entries, for any contents: sums are compared by differences, so that none wraps.
 ghost use mathlib.Core.Path.{_≡_};
 ghost use Prim.Native.Nat.{_+_};
-ghost use mathlib.Core.Bool.{cond};
 ghost use mathlib.Core.List.{[], _∷_};
 ghost use lib.ListN.{length};
 ghost use Rattle.base.specs.Tests.{all};
-ghost use Rattle.account.specs.Sound.{numberTests, amountTests, dueTests, lastDue};
-use account::ENTRIES;
+ghost use Rattle.account.specs.Sound.{amountTests, dueTests, lastDue};
 use records::MOST_TICKS;
-use records::Parameters;
-use sporadic::Server;
-
-// The most entries that there are slots for.
-const MOST: u8 = ENTRIES as u8;
-
-// One of two numbers.
-pub(super) fn either(first: bool, a: u64, b: u64) -> u64
-    ensures { λ r. ⌜ r ≡ cond first a b ⌝ }
-{
-    if first {
-        return a;
-    }
-    b
-}
-
-// The count, U and the activation time. `up`: runnable at the upper priority.
-pub(super) fn numbers_hold(
-    p: Parameters,
-    s: Server,
-    count: u8,
-    up: bool,
-    start: u64,
-    now: u64,
-) -> bool
-    ensures { λ r. ⌜ r ≡ all (numberTests start now up p s count) ⌝ }
-{
-    if p.max_repl < count {
-        return false;
-    }
-    if MOST < count {
-        return false;
-    }
-    if either(up, 0, s.used) != 0 {
-        return false;
-    }
-    if s.activation < start {
-        return false;
-    }
-    if now < s.activation {
-        return false;
-    }
-    s.used <= now - s.activation
-}
 
 // The pending entries: the amounts are at least 1 and with capacity and U make the budget; the dues don't fall and lie after
 // `after` by at most MOST_TICKS. One pass over both.
-pub(super) fn entries_hold<'a>(
+pub fn entries_hold<'a>(
     budget: u64,
     capacity: u64,
     used: u64,

@@ -1,4 +1,4 @@
--- `account_sound::tests::entries_hold` meets its contract: what is left of both lists gives the whole answer.
+-- `entries_sound::entries_hold` meets its contract: what is left of both lists gives the whole answer.
 use Prim.Native.Nat.{ℕ, _+_, _-_, _≤_, _<_}
 use mathlib.Core.Bool.{true, false}
 use mathlib.Core.Path.{_≡_, refl, sym, ap, _∙_}
@@ -9,9 +9,9 @@ use native.Mathlib.Omega.{arith}
 use Rattle.base.specs.Tests.{all}
 use Rattle.base.proofs.TestLaws.{all-false, all-one}
 use Rattle.account.specs.Sound.{amountTests, dueTests, lastDue}
-use Rattle.account_sound.proofs.ScanLaws.{amount-step, amount-none, amount-over, amount-held, amount-end, due-step, due-early, due-late}
-use Rattle.account_sound.proofs.tests.entries_hold.Statement.{statement}
-use Rattle.account_sound.proofs.tests.entries_hold.Tie as tie
+use Rattle.entries_sound.proofs.ScanLaws.{amount-step, amount-none, amount-over, amount-held, amount-end, due-step, due-early, due-late}
+use Rattle.entries_sound.proofs.entries_hold.Statement.{statement}
+use Rattle.entries_sound.proofs.entries_hold.Tie as tie
 
 -- from entry i on: what is left of the budget, and the last due
 record Held (budget own : ℕ) (amounts dues : List ℕ) (after hi left last i : ℕ) : Type 0 where

@@ -1,4 +1,4 @@
--- `account_sound::tests::numbers_hold` meets its contract.
+-- `account_lent::numbers_hold` meets its contract.
 use borrow.Author.Needs.{needs}
 use Prim.Native.Nat.{ℕ, _+_, _-_, _≤_, _<_}
 use mathlib.Core.Bool.{Bool, cond}
@@ -11,8 +11,8 @@ use Rattle.base.specs.Tests.{all}
 use Rattle.base.proofs.TestLaws.{all-false, all-one, leb-same}
 use Rattle.sporadic.specs.declared.Server.{Server}
 use Rattle.account.specs.Sound.{numberTests}
-use Rattle.account_sound.proofs.tests.numbers_hold.Statement.{statement}
-use Rattle.account_sound.proofs.tests.numbers_hold.Tie as tie
+use Rattle.account_lent.proofs.numbers_hold.Statement.{statement}
+use Rattle.account_lent.proofs.numbers_hold.Tie as tie
 
 -- where the first four tests hold, the last one decides
 last : (start now : ℕ) (up : Bool) (p : Parameters) (s : Server) (count : ℕ) → count ≤ p .«max_repl» → count ≤ 8 → cond up 0 (s .used) ≡ 0 → start ≤ s .activation

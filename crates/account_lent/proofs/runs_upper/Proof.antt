@@ -1,9 +1,9 @@
--- `account_sound::runs_upper` meets its contract.
+-- `account_lent::runs_upper` meets its contract.
 use borrow.Author.Needs.{needs}
 use mathlib.Core.Path.{sym, _∙_}
 use Rattle.base.proofs.TestLaws.{cond-false}
-use Rattle.account_sound.proofs.runs_upper.Statement.{statement}
-use Rattle.account_sound.proofs.runs_upper.Tie as tie
+use Rattle.account_lent.proofs.runs_upper.Statement.{statement}
+use Rattle.account_lent.proofs.runs_upper.Tie as tie
 
 returns : tie.Need-returns
 returns c = search needs

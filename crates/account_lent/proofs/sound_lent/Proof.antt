@@ -1,4 +1,4 @@
--- `account_sound::sound_lent` meets its contract: the numbers, the entries, and then the slots that are not in use.
+-- `account_lent::sound_lent` meets its contract: the numbers, the entries, and then the slots that are not in use.
 use borrow.Author.Needs.{needs}
 use Prim.Native.Nat.{ℕ, _+_, _-_, _≤_}
 use mathlib.Core.Bool.{Bool, true, false, cond}
@@ -14,9 +14,9 @@ use Rattle.records.specs.declared.Parameters.{Parameters}
 use Rattle.account.specs.declared.Account.{Account}
 use Rattle.account.specs.Account.{pendingDues, pendingAmounts}
 use Rattle.account.specs.Sound.{runsUpper, lastDue, numberTests, amountTests, dueTests, slotTests, soundTests, soundAt}
-use Rattle.account_sound.specs.Lent.{accountOf}
-use Rattle.account_sound.proofs.sound_lent.Statement.{statement}
-use Rattle.account_sound.proofs.sound_lent.Tie as tie
+use Rattle.account_lent.specs.Lent.{accountOf}
+use Rattle.account_lent.proofs.sound_lent.Statement.{statement}
+use Rattle.account_lent.proofs.sound_lent.Tie as tie
 
 -- what each part was given is what the definition says
 module _ (start now : ℕ) (blocked : Bool) (p : Parameters) (a : Account) (up : Bool) (eu : up ≡ runsUpper blocked p a) where

@@ -1,0 +1,2 @@
+-- What a reader of `account_lent` must believe.
+pub mod Lent

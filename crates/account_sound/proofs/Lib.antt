@@ -1,2 +1,0 @@
--- Laws of the test of an account.
-pub mod ScanLaws

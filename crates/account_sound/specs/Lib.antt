@@ -1,2 +1,0 @@
--- What a reader of `account_sound` must believe.
-pub mod Lent

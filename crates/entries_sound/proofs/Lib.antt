@@ -1,0 +1,2 @@
+-- Laws of the test of an account's entries.
+pub mod ScanLaws
