@@ -38,8 +38,8 @@ fn apply(e: Effect, a: Account) -> Account
     let amounts = q.amounts;
     let pending = Pending {
         count: entries::count_after(e.first, e.amount, q.count),
-        dues: entries::slots_after(dues, e.first, e.amount, dues, e.due, q.count, e.due),
-        amounts: entries::slots_after(amounts, e.first, e.amount, dues, e.due, q.count, e.amount),
+        dues: insertion::slots_after(dues, e.first, e.amount, dues, e.due, q.count, e.due),
+        amounts: insertion::slots_after(amounts, e.first, e.amount, dues, e.due, q.count, e.amount),
     };
     Account {
         server: server,

@@ -143,7 +143,7 @@ fn wake(p: Parameters, a: Account, blocked: bool, now: u64) -> Account {
 }
 
 fn due(p: Parameters, a: Account, blocked: bool, now: u64) -> Account {
-    let o = account_moments::return_due(p, a, blocked, now);
+    let o = account_returns::return_due(p, a, blocked, now);
     print_outcome(p, o, blocked, now);
     o.account
 }

@@ -1,16 +1,6 @@
-// The slots of the pending entries: an entry comes in due order, and the first one goes.
+// The slots of the pending entries: how many there are after a rule, and the first one goes. How one comes stands in `insertion`.
 ghost use mathlib.Core.Path.{_≡_};
-ghost use Prim.Native.Nat.{_<_, _≤_};
-ghost use Rattle.entries.specs.Entries.{
-  entries,
-  withoutFirst,
-  slotFor,
-  inserted,
-  countAfter,
-  slotsAfter,
-  Room,
-};
-use base::wide;
+ghost use Rattle.entries.specs.Entries.{withoutFirst, countAfter, Room};
 
 // How many pending replenishments an account has slots for.
 pub const ENTRIES: usize = 8;
@@ -27,61 +17,6 @@ pub fn count_after(first: bool, amount: u64, count: u8) -> u8
         return count;
     }
     count + 1
-}
-
-// And their dues or amounts: x is the due time or the amount of the one that came, which stands where its due time belongs.
-pub fn slots_after(
-    xs: [u64; ENTRIES],
-    first: bool,
-    amount: u64,
-    dues: [u64; ENTRIES],
-    due: u64,
-    count: u8,
-    x: u64,
-) -> [u64; ENTRIES]
-    requires { ⌜ Room first amount count ⌝ }
-    ensures { λ r. ⌜ r ≡ slotsAfter first amount (slotFor due count dues) count x xs ⌝ }
-{
-    if first {
-        return without_first(xs);
-    }
-    if amount == 0 {
-        return xs;
-    }
-    let n = wide(count);
-    let k = slot_for(dues, n, due);
-    insert(xs, k, n, x)
-}
-
-// How many of the first `count` dues stand before one that is due at `due`, sought from the last.
-fn slot_for(dues: [u64; ENTRIES], count: usize, due: u64) -> usize
-    requires { ⌜ count ≤ entries ⌝ }
-    ensures { λ r. ⌜ r ≡ slotFor due count dues ⌝ }
-{
-    let mut k = count;
-    while 0 < k {
-        let d = dues[k - 1];
-        if d <= due {
-            return k;
-        }
-        k = k - 1;
-    }
-    0
-}
-
-// x at slot k of the first n numbers; those from k on move one slot down.
-fn insert(xs: [u64; ENTRIES], k: usize, n: usize, x: u64) -> [u64; ENTRIES]
-    requires { ⌜ (k ≤ n) × (n < entries) ⌝ }
-    ensures { λ r. ⌜ r ≡ inserted k n x xs ⌝ }
-{
-    let mut r = xs;
-    let mut i = n;
-    while k < i {
-        r[i] = xs[i - 1];
-        i = i - 1;
-    }
-    r[i] = x;
-    r
 }
 
 // Each number one slot up; the last slot is 0.

@@ -1,4 +1,4 @@
--- `account_moments::all_back` meets its contract. The invariant: what is left to come back gives the same account.
+-- `account_returns::all_back` meets its contract. The invariant: what is left to come back gives the same account.
 use Rattle.account.proofs.ReturnLaws.{due-some, first-counted, returned-done, returned-more}
 use Rattle.account.proofs.RoomLaws.{return-room}
 use Rattle.account.specs.declared.Outcome.{Outcome}
@@ -8,8 +8,8 @@ use native.Mathlib.Omega.{arith}
 use lib.ListN.{getD}
 use mathlib.Core.Path.{_≡_, refl, sym, ap, _∙_}
 use borrow.Author.Needs.{needs}
-use Rattle.account_moments.proofs.all_back.Statement.{statement}
-use Rattle.account_moments.proofs.all_back.Tie as tie
+use Rattle.account_returns.proofs.all_back.Statement.{statement}
+use Rattle.account_returns.proofs.all_back.Tie as tie
 
 abbrev Inv-loop : tie.InvT-loop
 Inv-loop p blocked now r₀ r = returned (r .pending .count) now blocked p r ≡ returned (r₀ .pending .count) now blocked p r₀

@@ -1,11 +1,11 @@
--- `entries::slot_for` meets its contract. The invariant: the slot is the one among the first k.
+-- `insertion::slot_for` meets its contract. The invariant: the slot is the one among the first k.
 use Prim.Native.Nat.{_≤_}
 use mathlib.Core.Path.{_≡_, refl, sym, _∙_}
 use native.Mathlib.Omega.{arith}
 use Rattle.entries.specs.Entries.{slotFor}
 use Rattle.entries.proofs.InsertLaws.{slot-here, slot-earlier, slot-none}
-use Rattle.entries.proofs.slot_for.Statement.{statement}
-use Rattle.entries.proofs.slot_for.Tie as tie
+use Rattle.insertion.proofs.slot_for.Statement.{statement}
+use Rattle.insertion.proofs.slot_for.Tie as tie
 
 abbrev Inv-loop : tie.InvT-loop
 Inv-loop count due dues k₀ k = (k ≤ count) × (slotFor due k dues ≡ slotFor due count dues)

@@ -1,12 +1,12 @@
--- `account_moments::return_due` meets its contract.
+-- `account_returns::return_due` meets its contract.
 use Rattle.account.specs.Rules.{firstIsDue, returnFirst}
 use Rattle.sporadic.specs.declared.Place.the-variants.{Stays}
 use Rattle.sporadic.specs.declared.Effect.{Effect}
 use Rattle.base.proofs.TestLaws.{cond-true, cond-false}
 use mathlib.Core.Path.{sym, ap, _∙_}
 use borrow.Author.Needs.{needs}
-use Rattle.account_moments.proofs.return_due.Statement.{statement}
-use Rattle.account_moments.proofs.return_due.Tie as tie
+use Rattle.account_returns.proofs.return_due.Statement.{statement}
+use Rattle.account_returns.proofs.return_due.Tie as tie
 
 all-back-requires : tie.Need-all-back-requires
 all-back-requires c κs = search needs

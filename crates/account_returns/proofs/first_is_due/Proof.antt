@@ -1,9 +1,9 @@
--- `account_moments::first_is_due` meets its contract.
+-- `account_returns::first_is_due` meets its contract.
 use native.Mathlib.Omega.{arith}
 use borrow.Author.Needs.{needs}
 use borrow.Author.Tests.{lt-ltb}
-use Rattle.account_moments.proofs.first_is_due.Statement.{statement}
-use Rattle.account_moments.proofs.first_is_due.Tie as tie
+use Rattle.account_returns.proofs.first_is_due.Statement.{statement}
+use Rattle.account_returns.proofs.first_is_due.Tie as tie
 
 returns : tie.Need-returns
 returns c = simp (c .if1 .taken)

@@ -1,14 +1,14 @@
--- `entries::slots_after` meets its contract.
+-- `insertion::slots_after` meets its contract.
 use Prim.Native.Nat.{ℕ, _<_}
 use mathlib.Core.Path.{sym, ap, _∙_}
 use native.Mathlib.Omega.{arith}
 use borrow.Author.Tests.{eq-eqb, ne-eqb}
 use Rattle.base.proofs.TestLaws.{cond-true, cond-false}
 use borrow.Author.Needs.{needs}
 use Rattle.entries.specs.Entries.{slotFor, inserted}
 use Rattle.entries.proofs.InsertLaws.{slot-for}
-use Rattle.entries.proofs.slots_after.Statement.{statement}
-use Rattle.entries.proofs.slots_after.Tie as tie
+use Rattle.insertion.proofs.slots_after.Statement.{statement}
+use Rattle.insertion.proofs.slots_after.Tie as tie
 
 without-first-requires : tie.Need-without-first-requires
 without-first-requires c κs = search needs

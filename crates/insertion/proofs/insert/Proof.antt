@@ -1,10 +1,10 @@
--- `entries::insert` meets its contract. The invariant: the numbers from i on are moved one slot down.
+-- `insertion::insert` meets its contract. The invariant: the numbers from i on are moved one slot down.
 use Prim.Native.Nat.{_≤_}
 use mathlib.Core.Path.{_≡_}
 use native.Mathlib.Omega.{arith}
 use Rattle.entries.proofs.InsertLaws.{movedDown, down-start, down-turn, down-store}
-use Rattle.entries.proofs.insert.Statement.{statement}
-use Rattle.entries.proofs.insert.Tie as tie
+use Rattle.insertion.proofs.insert.Statement.{statement}
+use Rattle.insertion.proofs.insert.Tie as tie
 
 abbrev Inv-loop : tie.InvT-loop
 Inv-loop k n x xs r₀ i₀ r i = (k ≤ i) × (i ≤ n) × (r ≡ movedDown xs n i)
