@@ -3,5 +3,6 @@ pub mod RowLaws
 pub mod WordLaws
 pub mod ListLaws
 pub mod StepLaws
+pub mod RotateLaws
 pub mod Soundness
 pub mod SoundLaws

@@ -182,7 +182,7 @@ without-length i xs h =
     rw (without-split i xs h) (simp (length-append, length-take, length-drop) (omega arith))
 
 -- the gap after the j first threads closed
-row-closed : (xs : List ℕ) (j : ℕ) → j < length xs
+pub row-closed : (xs : List ℕ) (j : ℕ) → j < length xs
     → closed (rowOf xs) (1 + j) (length xs - j) ≡ length xs ∷ ((take j xs ++ drop (suc j) xs) ++ (0 ∷ replicate (32 - length xs) 0))
 unfolding closed
 row-closed xs j h =
@@ -245,7 +245,7 @@ module _ (word p : ℕ) (l : List ℕ) (f : Formed word p l) where
   pub threads-length : length (threads p l) ≡ sizeAt l p
   threads-length = members-length (rowAt p l) (row-length p l (f .low) (f .high) (f .array)) (f .short)
 
-  formed-array : l ≡ withRow p (rowOf (threads p l)) l
+  pub formed-array : l ≡ withRow p (rowOf (threads p l)) l
   formed-array = row-same p l (f .low) (f .high) (f .array) ∙ ap (λ (r : List ℕ). withRow p r l) formed-row
 
   module _ (i at m : ℕ) (e : at ≡ start p) (r : m ≡ getD l at 0) where

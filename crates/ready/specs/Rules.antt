@@ -35,3 +35,8 @@ pub record Leavable (word p i : ℕ) (l : List ℕ) : Type 0 where
 pub record Movable (word i from to : ℕ) (l : List ℕ) : Type 0 where
   pub leaves : Leavable word from i l
   pub joins : Joinable (occupancy (removed from i l)) to (removed from i l)
+
+-- the head of list p can become its tail: the list is in order and holds a thread
+pub record Rotatable (p : ℕ) (l : List ℕ) : Type 0 where
+  pub formed : Formed (occupancy l) p l
+  pub some : 0 < sizeAt l p

@@ -1,10 +1,10 @@
-// A thread leaves a list: it is found, and the gap is closed.
+// A gap in a list is closed: where a thread leaves it, and where the head becomes the tail.
 ghost use mathlib.Core.Path.{_≡_};
 ghost use Prim.Native.Nat.{_+_, _≤_, _<_};
 ghost use lib.ListN.{length, take, drop};
-ghost use Rattle.ready.specs.Lists.{listBytes, removed};
+ghost use Rattle.ready.specs.Lists.{listBytes, headOf, removed, moved};
 ghost use Rattle.ready.specs.Word.{occupancy};
-ghost use Rattle.ready.specs.Rules.{Leavable};
+ghost use Rattle.ready.specs.Rules.{Leavable, Rotatable};
 ghost use Rattle.ready.specs.Private.{indexOf, closed};
 use base::wide;
 use ready::LIST_BYTES;
@@ -55,4 +55,20 @@ pub fn remove(lists: &mut [u8; LIST_BYTES], word: u32, p: u8, i: u8) -> u32
         return word - ready::bit(p);
     }
     word
+}
+
+// The head of list p becomes its tail, as at the end of a quantum; the word stays as it is.
+pub fn rotate(lists: &mut [u8; LIST_BYTES], p: u8)
+    requires { ⌜ Rotatable p (now lists) ⌝ }
+    ensures { λ _. ⌜ now (lists .exit) ≡ moved (headOf p (now (lists .entry))) p p (now (lists .entry)) ⌝ }
+{
+    let at = ready::row_start(p);
+    let n = wide(lists[at]);
+    // a lone thread is head and tail
+    if n < 2 {
+        return;
+    }
+    let i = lists[at + 1];
+    close(lists, at + 1, n);
+    lists[at + n] = i;
 }
