@@ -4,27 +4,29 @@ use mathlib.Core.Bool.{Bool, true, false, cond}
 use mathlib.Core.Path.{_≡_, refl, sym, ap, ap₂, _∙_, subst, subst₂, subst⁻¹}
 use mathlib.Core.List.{List}
 use lib.ListN.{getD, set}
-use lib.Seq.{set-set}
+use lib.Seq.{set-set, getD-set-same}
 use lib.Dec.{eqb}
 use native.Mathlib.Omega.{arith}
 use borrow.Author.Tests.{eqb-true, eqb-false}
 use Rattle.base.proofs.TestLaws.{tests, cond-true, cond-false}
 use Rattle.sporadic.specs.declared.Effect.{Effect}
-use Rattle.account.specs.Rules.{pendingAfter, Room, Schedulable, returnFirst}
+use Rattle.sporadic.specs.declared.Place.the-variants.{Low, LowThenUpper, Upper}
+use Rattle.account.specs.Rules.{pendingAfter, withoutFirst, slotsAfter, Room, Schedulable, returnFirst}
 use Rattle.sporadic.specs.Rules.{limitEffect, returnEffect}
-use Rattle.sporadic.proofs.EffectLaws.{limit-keeps}
+use Rattle.sporadic.proofs.EffectLaws.{limit-keeps, return-elim}
 use Rattle.account.proofs.RoomLaws.{limit-room, return-room}
 use Rattle.reports.specs.Tallies.{tally, plus, returned, numbers, moreOf}
-use Rattle.ready.specs.Lists.{moved}
+use Rattle.ready.specs.Lists.{headOf, moved}
 use Rattle.ready.specs.Word.{occupancy}
-use Rattle.ready.specs.Rules.{Movable}
+use Rattle.ready.specs.Rules.{Movable, Rotatable}
+use Rattle.ready.proofs.RotateLaws.{rotated-word}
 use Rattle.passing.specs.Time.{dueBy}
 use Rattle.passing.proofs.TimeLaws.{due-true, due-false}
 use Rattle.thread.specs.declared.Thread.{Thread}
 use Rattle.state.specs.declared.State.{State}
 use Rattle.rows.specs.Rows.{slotsAt, withSlots}
 use Rattle.state.specs.State.{threadAt, pendingAt, accountAt}
-use Rattle.thread.specs.Thread.{isBlocked, withLeft, withServer}
+use Rattle.thread.specs.Thread.{isBlocked, noThread, withLeft, withServer}
 use Rattle.rows.proofs.RowLaws.{row-length, row-first}
 use Rattle.due_search.specs.declared.Due.{Due}
 use Rattle.ticks.proofs.EarlierLaws.{earlier-left}
@@ -38,11 +40,11 @@ use Rattle.moments.specs.Reports.{reported}
 use Rattle.due_search.proofs.DueLaws.{found}
 use Rattle.moments.proofs.InsertLaws.{came, limit-entries}
 use Rattle.moments.proofs.ChargeLaws.{limit-later}
-use Rattle.moments.proofs.TurnLaws.{firstOf, first-later, first-of-all, Going, weight, turn-rest, turn-limit, due-some, not-past, charged-going, turn-due}
-use Rattle.moments.proofs.SeenLaws.{Seen, seen-head, seen-at, seen-small, seen-limit, seen-next, charge-fits, charge-place}
-use Rattle.moments.proofs.StepLaws.{Sendable, limit-not-upper, limit-runs, limit-thread, quantum-movable, quantum-is, limited-present, limited-is, limited-requires, limited-sendable, due-sendable, limited-used}
+use Rattle.moments.proofs.TurnLaws.{firstOf, first-later, first-of-all, first-small, first-some, Going, weight, turn-rest, turn-limit, is-due, not-past, turn-charged, turn-back}
+use Rattle.moments.proofs.SeenLaws.{Seen, seen-held, seen-head, seen-at, seen-small, seen-limit, seen-next, charge-fits, charge-place}
+use Rattle.moments.proofs.StepLaws.{Sendable, limit-not-upper, return-not-low, return-not-then, limit-runs, limit-thread, quantum-movable, quantum-is, limited-present, limited-is, limited-requires, limited-sendable, due-sendable, limited-used}
 use Rattle.moments.proofs.ReportBounds.{limit-back, return-back, first-amount}
-use Rattle.moments.proofs.ToldLaws.{Telling, tell-done, tell-quantum, tell-limit, tell-return}
+use Rattle.moments.proofs.ToldLaws.{Telling, tell-done, tell-quantum, tell-limit, tell-charged, tell-back}
 use Rattle.state.specs.Updates.{stateOf}
 
 -- ticks charged in place: the time, the idle time, and thread i
@@ -50,8 +52,8 @@ abbrev pub withTicks : ℕ → ℕ → ℕ → Thread → State → State
 withTicks i now idle w s =
     stateOf (s .header) now idle (s .word) (set (s .threads) i w) (s .counts) (s .dues) (s .amounts) (s .lists)
 
--- an effect put in place: what the writes leave
-pub record Put (u : State) (j : ℕ) (e : Effect) : Type 0 where
+-- an effect put in place on thread j, read as w: what the writes leave
+pub record Put (u : State) (j : ℕ) (w : Thread) (e : Effect) : Type 0 where
   pub number : ℕ
   pub word : ℕ
   pub thread : Thread
@@ -60,20 +62,24 @@ pub record Put (u : State) (j : ℕ) (e : Effect) : Type 0 where
   pub amounts : List ℕ
   pub lists : List ℕ
   pub number-is : number ≡ j
-  pub word-is : word ≡ occupancy (sentTo (e .place) number (threadAt u j .parameters) (u .lists))
-  pub thread-is : thread ≡ withServer (e .server) (threadAt u j)
+  pub read : w ≡ threadAt u j
+  pub word-is : word ≡ occupancy (sentTo (e .place) number (w .parameters) (u .lists))
+  pub thread-is : thread ≡ withServer (e .server) w
   pub count-is : count ≡ pendingAfter e (pendingAt u j) .count
   pub dues-is : dues ≡ withSlots j (pendingAfter e (pendingAt u j) .dues) (u .dues)
   pub amounts-is : amounts ≡ withSlots j (pendingAfter e (pendingAt u j) .amounts) (u .amounts)
-  pub lists-is : lists ≡ sentTo (e .place) number (threadAt u j .parameters) (u .lists)
+  pub lists-is : lists ≡ sentTo (e .place) number (w .parameters) (u .lists)
 
-abbrev pub putState : (u : State) (j : ℕ) (e : Effect) → Put u j e → State
-putState u j e p =
+abbrev pub putState : (u : State) (j : ℕ) (w : Thread) (e : Effect) → Put u j w e → State
+putState u j w e p =
     stateOf (u .header) (u .now) (u .idle) (p .word) (set (u .threads) j (p .thread)) (set (u .counts) j (p .count)) (p .dues) (p .amounts) (p .lists)
 
-put-is : (u : State) (j : ℕ) (e : Effect) (p : Put u j e) → putState u j e p ≡ withEffect j e u
-put-is u j e p =
-    λ y. stateOf (u .header) (u .now) (u .idle) ((p .word-is ∙ ap (λ (k : ℕ). occupancy (sentTo (e .place) k (threadAt u j .parameters) (u .lists))) (p .number-is)) y) (set (u .threads) j (p .thread-is y)) (set (u .counts) j (p .count-is y)) (p .dues-is y) (p .amounts-is y) ((p .lists-is ∙ ap (λ (k : ℕ). sentTo (e .place) k (threadAt u j .parameters) (u .lists)) (p .number-is)) y)
+put-is : (u : State) (j : ℕ) (w : Thread) (e : Effect) (p : Put u j w e) → putState u j w e p ≡ withEffect j e u
+put-is u j w e p =
+    λ y. stateOf (u .header) (u .now) (u .idle) ((p .word-is ∙ ap occupancy sent) y) (set (u .threads) j ((p .thread-is ∙ ap (withServer (e .server)) (p .read)) y)) (set (u .counts) j (p .count-is y)) (p .dues-is y) (p .amounts-is y) ((p .lists-is ∙ sent) y)
+  where
+    sent : sentTo (e .place) (p .number) (w .parameters) (u .lists) ≡ sentTo (e .place) j (threadAt u j .parameters) (u .lists)
+    sent = ap₂ (λ (k : ℕ) (v : Thread). sentTo (e .place) k (v .parameters) (u .lists)) (p .number-is) (p .read)
 
 -- what holds between turns: time goes on as it did before, with what is told so far, the word names the threads that have something
 -- pending, and x is the next due
@@ -109,36 +115,110 @@ pub record Ticked (r : Turn) : Type 0 where
 abbrev pub tickedState : (r : Turn) → Ticked r → State
 tickedState r k = withTicks (r .at) (r .moment) (k .idle) (k .thread) (r .state)
 
--- no quantum ends, and the thread is chosen to which the moment belongs
-pub record Chosen (r : Turn) (k : Ticked r) : Type 0 where
-  pub not-ended : cond (eqb (r .moment) (r .limit)) (eqb (k .thread .parameters .policy) 1) false ≡ false
-  pub number : ℕ
-  pub number-is : number ≡ cond (eqb (r .moment) (r .limit)) (r .at) (r .first .thread)
-
 -- what the rule of a turn leaves: the thread can be sent, time goes on as before, and a turn less is left
-pub record Acted (r : Turn) (u : State) (j : ℕ) (e : Effect) : Type 0 where
+pub record Acted (s₀ : State) (t : ℕ) (s u : State) (j : ℕ) (e : Effect) : Type 0 where
   pub sendable : Sendable (u .word) j (threadAt u j .parameters) (u .lists) (e .place)
-  pub going : Going (r .origin) (r .to) (withEffect j e u)
-  pub falls : weight (r .to) (withEffect j e u) < weight (r .to) (r .state)
+  pub going : Going s₀ t (withEffect j e u)
+  pub falls : weight t (withEffect j e u) < weight t s
 
 -- and so the writes of its effect
-pub put-going : (r : Turn) (u : State) (j : ℕ) (e : Effect) (p : Put u j e) → Acted r u j e → Going (r .origin) (r .to) (putState u j e p)
-put-going r u j e p a = subst⁻¹ (Going (r .origin) (r .to)) (put-is u j e p) (a .going)
+module _ (s₀ : State) (t : ℕ) (s u : State) (j : ℕ) (w : Thread) (e : Effect) (p : Put u j w e) (a : Acted s₀ t s u j e) where
+  pub put-going : Going s₀ t (putState u j w e p)
+  put-going = subst⁻¹ (Going s₀ t) (put-is u j w e p) (a .going)
 
-pub put-falls : (r : Turn) (u : State) (j : ℕ) (e : Effect) (p : Put u j e) → Acted r u j e → weight (r .to) (putState u j e p) < weight (r .to) (r .state)
-put-falls r u j e p a = subst⁻¹ (λ (y : State). weight (r .to) y < weight (r .to) (r .state)) (put-is u j e p) (a .falls)
+  pub put-falls : weight t (putState u j w e p) < weight t s
+  put-falls = subst⁻¹ (λ (y : State). weight t y < weight t s) (put-is u j w e p) (a .falls)
 
--- no due is before now then
-put-later : (r : Turn) (u : State) (j : ℕ) (e : Effect) (p : Put u j e) → Acted r u j e
-    → (i : ℕ) → i < 32 → 0 < getD (set (u .counts) j (p .count)) i 0 → u .now ≤ getD (p .dues) (i * 8) 0
-put-later r u j e p a i l c =
-    omega (arith, row-first i (p .dues), first-later (λ i. u .now - 1) (putState u j e p) (put-going r u j e p a .mid) i l c)
+  -- no due is before now then
+  put-later : (i : ℕ) → i < 32 → 0 < getD (set (u .counts) j (p .count)) i 0 → u .now ≤ getD (p .dues) (i * 8) 0
+  put-later i l c = omega (arith, row-first i (p .dues), first-later (λ i. u .now - 1) (putState u j w e p) (put-going .mid) i l c)
 
--- and the search through the word finds the next due
-pub put-first : (r : Turn) (u : State) (j : ℕ) (e : Effect) (p : Put u j e) → Acted r u j e
-    → (waiting : ℕ) (x : Due) → PendingWord (set (u .counts) j (p .count)) waiting → NextInWord waiting (p .dues) (u .now) x → x ≡ firstOf (putState u j e p)
-put-first r u j e p a waiting x w f =
-    f (set (u .counts) j (p .count)) w (put-later r u j e p a) ∙ first-of-all (λ i. u .now - 1) (putState u j e p) (put-going r u j e p a .mid)
+  -- and the search through the word finds the next due
+  pub put-first : (waiting : ℕ) (x : Due) → PendingWord (set (u .counts) j (p .count)) waiting → NextInWord waiting (p .dues) (u .now) x → x ≡ firstOf (putState u j w e p)
+  put-first waiting x n f =
+      f (set (u .counts) j (p .count)) n put-later ∙ first-of-all (λ i. u .now - 1) (putState u j w e p) (put-going .mid)
+
+-- ---- what is due now
+
+module _ (s₀ : State) (t : ℕ) (s : State) (g : Going s₀ t s) (x : Due) (f : x ≡ firstOf s) (b : dueBy (x .due) (s .now) ≡ true) where
+  there : firstOf s .thread ≡ 32 → ⊥
+  there d =
+      let y = found (s .counts) (s .dues) (s .header .n) (omega (tests, g .mid .sizes)) in
+      omega (arith, y .none d .0, due-true (x .due) (s .now) b .0, ap (λ (y : Due). y .due) f)
+
+  by-now : firstOf s .due ≤ s .now
+  by-now = omega (arith, due-true (x .due) (s .now) b .1, ap (λ (y : Due). y .due) f)
+
+  abbrev j : ℕ
+  j = x .thread
+
+  same-thread : j ≡ firstOf s .thread
+  same-thread = ap (λ (y : Due). y .thread) f
+
+  pub back-small : j < 32
+  back-small = omega (arith, first-small s (g .mid) there by-now, same-thread)
+
+  back-some : 0 < getD (s .counts) j 0
+  back-some = omega (arith, first-some s (g .mid) there by-now, ap (λ (n : ℕ). getD (s .counts) n 0) same-thread)
+
+  -- the rule, with the numbers that the code reads
+  module _ (e : Effect) (h : e ≡ returnEffect (s .now) (isBlocked (threadAt s j)) (threadAt s j .parameters) (getD (s .counts) j 0) (getD (s .amounts) (j * 8) 0) (threadAt s j .server)) where
+    abbrev rule : ℕ → Effect
+    rule n = returnFirst (s .now) (isBlocked (threadAt s n)) (threadAt s n .parameters) (accountAt s n)
+
+    back-is : e ≡ rule j
+    back-is =
+        h
+        ∙ ap (λ (y : ℕ). returnEffect (s .now) (isBlocked (threadAt s j)) (threadAt s j .parameters) (getD (s .counts) j 0) y (threadAt s j .server)) (sym (row-first j (s .amounts)))
+
+    pub back-acts : Acted s₀ t s s j e
+    back-acts =
+        subst⁻¹ (Acted s₀ t s s j) back-is
+        (subst⁻¹ (λ (n : ℕ). Acted s₀ t s s n (rule n)) same-thread
+        (record {
+          sendable = due-sendable (λ i. s .now - 1) s (g .mid) (firstOf s .thread) (first-small s (g .mid) there by-now) (first-some s (g .mid) there by-now);
+          going = turn-back s₀ s t g there by-now .0;
+          falls = turn-back s₀ s t g there by-now .1;
+        }))
+
+    -- it goes to no low list
+    pub back-not-low : e .place ≡ Low → ⊥
+    back-not-low q = return-not-low (s .now) _ _ _ _ _ (sym (ap (λ (y : Effect). y .place) h) ∙ q)
+
+    pub back-not-then : e .place ≡ LowThenUpper → ⊥
+    back-not-then q = return-not-then (s .now) _ _ _ _ _ (sym (ap (λ (y : Effect). y .place) h) ∙ q)
+
+    -- the first entry goes
+    pub back-first : e .first ≡ true
+    back-first =
+        subst⁻¹ (λ (y : Effect). y .first ≡ true) h
+        (return-elim (s .now) (threadAt s j .parameters) (threadAt s j .server) (isBlocked (threadAt s j)) (getD (s .counts) j 0) (getD (s .amounts) (j * 8) 0) (λ (y : Effect). y .first ≡ true)
+        (λ z. absurd (omega (arith, back-some))) (λ c u. refl) (λ c w u. refl))
+
+    pub back-room : Room (e .first) (e .amount) (getD (s .counts) j 0)
+    back-room =
+        subst⁻¹ (λ (y : Effect). Room (y .first) (y .amount) (getD (s .counts) j 0)) h
+        (return-room (s .now) (threadAt s j .parameters) (threadAt s j .server) (isBlocked (threadAt s j)) (getD (s .counts) j 0) (getD (s .amounts) (j * 8) 0))
+
+    pub back-slots : (k c y : ℕ) (xs ys : List ℕ) → ys ≡ withSlots j (withoutFirst (slotsAt j xs)) xs → ys ≡ withSlots j (slotsAfter (e .first) (e .amount) k c y (slotsAt j xs)) xs
+    back-slots k c y xs ys q = q ∙ ap (λ (r : List ℕ). withSlots j r xs) (sym (cond-true (e .first) _ _ back-first))
+
+    pub back-least : e .back ≤ 1000000000
+    back-least =
+        omega (
+          arith,
+          ap (λ (y : Effect). y .back) back-is,
+          return-back (s .now) (threadAt s j .parameters) (threadAt s j .server) (isBlocked (threadAt s j)) (getD (s .counts) j 0) (getD (slotsAt j (s .amounts)) 0 0) 1000000000
+              (first-amount (λ i. s .now - 1) s (g .mid) j back-small back-some),
+        )
+
+    pub back-told : (w : Thread) (p : Put s j w e) (told : List ℕ) → Telling s₀ t s told → Telling s₀ t (putState s j w e p) (moreOf j (returned e) told)
+    back-told w p told y =
+        subst⁻¹ (λ (v : State). Telling s₀ t v (moreOf j (returned e) told)) (put-is s j w e p)
+        (subst⁻¹ (λ (x : Effect). Telling s₀ t (withEffect j x s) (moreOf j (returned x) told)) back-is
+        (subst⁻¹ (λ (n : ℕ). Telling s₀ t (withEffect n (rule n) s) (moreOf n (returned (rule n)) told)) same-thread (tell-back s₀ s t told (g .mid) y there by-now)))
+
+-- ---- nothing is due now
 
 module _ (r : Turn) where
   abbrev s₀ : State
@@ -299,8 +379,24 @@ module _ (r : Turn) where
           subst⁻¹ (λ (n : ℕ). Movable (s .word) n p p (s .lists)) (seen-head (λ i. s .now - 1) s (g .mid) x p h i l m v some-runs)
           (subst⁻¹ (λ (r : ℕ). Movable (s .word) (head s) r r (s .lists)) (v .list) (quantum-movable (λ i. s .now - 1) s (g .mid) (some b) limited (later b)))
 
-      module _ (z : w .parameters .policy ≡ 1) (f : Thread) (o : ℕ) (ls : List ℕ) (ff : f ≡ withLeft (w .parameters .budget) w)
-          (fo : o ≡ occupancy (moved h p p (s .lists))) (fl : ls ≡ moved h p p (s .lists)) where
+      pub ended-rotatable : Rotatable p (s .lists)
+      ended-rotatable =
+          let f = ended-movable .leaves .formed in
+          record {
+            formed = record { array = f .array; low = f .low; high = f .high; short = f .short; rest = f .rest; agrees = refl };
+            some = seen-held (λ i. s .now - 1) s (g .mid) p (v .list) some-runs .some;
+          }
+
+      module _ (z : w .parameters .policy ≡ 1) (f : Thread) (ls : List ℕ) (ff : f ≡ withLeft (w .parameters .budget) w) (fh : ls ≡ moved (headOf p (s .lists)) p p (s .lists)) where
+        fl : ls ≡ moved h p p (s .lists)
+        fl = fh ∙ ap (λ (n : ℕ). moved n p p (s .lists)) (sym (v .top ∙ cond-false (eqb p 0) _ _ some-runs))
+
+        abbrev o : ℕ
+        o = s .word
+
+        fo : o ≡ occupancy (moved h p p (s .lists))
+        fo = rotated-word (s .word) h p (s .lists) ended-movable
+
         abbrev ended : State
         ended =
             stateOf (s .header) m idle o (set (s .threads) i f) (s .counts) (s .dues) (s .amounts) ls
@@ -326,199 +422,136 @@ module _ (r : Turn) where
             (subst⁻¹ (λ (a : State). Telling s₀ t a (moreOf (head s) (tally 0 1 0 0) told)) ended-is
             (tell-quantum s₀ s t told g y (some b) (by b) top limited (omega (arith, at-small, at-head)) (sym policy-is ∙ z)))
 
-    -- ---- a limit or what is due
+      -- the limit of a sporadic thread
 
-    module _ (d : Chosen r k) where
-      abbrev z : cond (eqb m l) (eqb (w .parameters .policy) 1) false ≡ false
-      z = d .not-ended
+      module _ (z : w .parameters .policy ≡ 1 → ⊥) where
+        abbrev c : State
+        c = charge (next s - s .now) s
 
-      abbrev j : ℕ
-      j = d .number
+        not-rr : threadAt s (head s) .parameters .policy ≡ 1 → ⊥
+        not-rr e = z (policy-is ∙ e)
 
-      abbrev fj : j ≡ cond (eqb m l) i (x .thread)
-      fj = d .number-is
+        -- the thread as it is charged
+        pub limit-read : w ≡ threadAt u i
+        limit-read = sym (getD-set-same (s .threads) i w noThread (omega (tests, g .mid .sizes, at-small)))
 
-      abbrev c : State
-      c = charge (next s - s .now) s
+        -- what its rule requires
+        pub limit-requires : Schedulable (w .parameters) (w .server) (getD (s .counts) i 0)
+        limit-requires =
+            subst⁻¹ (λ (y : Thread). Schedulable (y .parameters) (y .server) (getD (s .counts) i 0)) limit-read
+            (subst⁻¹ (λ (y : State). Schedulable (threadAt y i .parameters) (threadAt y i .server) (getD (y .counts) i 0)) charged-is
+            (subst⁻¹ (λ (n : ℕ). Schedulable (threadAt c n .parameters) (threadAt c n .server) (getD (c .counts) n 0)) at-head
+            (limited-requires (λ i. s .now - 1) s (g .mid) (some b) limited (later b) not-rr)))
 
-      not-rr : eqb m l ≡ true → threadAt s (head s) .parameters .policy ≡ 1 → ⊥
-      not-rr q e = eqb-false (w .parameters .policy) 1 (sym (cond-true (eqb m l) _ _ q) ∙ z) (policy-is q ∙ e)
+        module _ (e : Effect) (f : e ≡ limitEffect m false (w .parameters) (w .server)) where
+          abbrev limitRule : State → ℕ → Effect
+          limitRule y n = limitEffect (y .now) false (threadAt y n .parameters) (threadAt y n .server)
 
-      j-head : eqb m l ≡ true → j ≡ head s
-      j-head q = fj ∙ cond-true (eqb m l) _ _ q ∙ at-head q
+          limit-by-rule : e ≡ limitRule u i
+          limit-by-rule = f ∙ ap (λ (y : Thread). limitEffect m false (y .parameters) (y .server)) limit-read
 
-      j-due : eqb m l ≡ false → j ≡ firstOf s .thread
-      j-due q = fj ∙ cond-false (eqb m l) _ _ q ∙ ap (λ (y : Due). y .thread) (v .first)
-
-      unlimited : eqb m l ≡ false → limit s ≡ next s → ⊥
-      unlimited q e = eqb-false m l q (is-next ∙ sym e ∙ sym is-limit)
-
-      first-small : eqb m l ≡ false → firstOf s .thread < 32
-      first-small q =
-          let r = found (s .counts) (s .dues) (s .header .n) (omega (tests, g .mid .sizes)) .some (due-some s₀ s t g (some b) (by b) top (unlimited q)) in
-          omega (tests, r .0, g .mid .sizes)
-
-      pub number-small : j < 32
-      number-small = go (eqb m l) refl
-        where
-          go : (a : Bool) → eqb m l ≡ a → j < 32
-          go true q = omega (arith, at-small, fj ∙ cond-true (eqb m l) i (x .thread) q)
-          go false q = omega (arith, first-small q, j-due q)
-
-      -- what the rule of the limit requires
-      pub limit-requires : eqb m l ≡ true → Schedulable (threadAt u j .parameters) (threadAt u j .server) (getD (s .counts) j 0)
-      limit-requires q =
-          subst⁻¹ (λ (y : State). Schedulable (threadAt y j .parameters) (threadAt y j .server) (getD (y .counts) j 0)) charged-is
-          (subst⁻¹ (λ (n : ℕ). Schedulable (threadAt c n .parameters) (threadAt c n .server) (getD (c .counts) n 0)) (j-head q)
-          (limited-requires (λ i. s .now - 1) s (g .mid) (some b) (limited q) (later b) (not-rr q)))
-
-      -- the first due, where the moment is no limit
-      module _ (q : eqb m l ≡ false) where
-        here : (firstOf s .thread < s .header .n) × (0 < getD (s .counts) (firstOf s .thread) 0) × (firstOf s .due ≡ getD (s .dues) (firstOf s .thread * 8) 0)
-        here = found (s .counts) (s .dues) (s .header .n) (omega (tests, g .mid .sizes)) .some (due-some s₀ s t g (some b) (by b) top (unlimited q))
-
-        goes : Going s₀ t c
-        goes = charged-going s₀ s t g (some b) (by b) top (unlimited q)
-
-      -- the rule, on the state as it is charged
-      abbrev rule : State → ℕ → Effect
-      rule y n =
-          cond (eqb m l) (limitEffect (y .now) false (threadAt y n .parameters) (threadAt y n .server))
-          (returnFirst (y .now) (isBlocked (threadAt y n)) (threadAt y n .parameters) (accountAt y n))
-
-      on-charged : Acted r c j (rule c j)
-      on-charged = go (eqb m l) refl
-        where
-          go : (a : Bool) → eqb m l ≡ a → Acted r c j (rule c j)
-          go true q =
-              subst⁻¹ (λ (n : ℕ). Acted r c n (rule c n)) (j-head q)
-              (subst⁻¹ (Acted r c (head s)) (cond-true (eqb m l) _ _ q)
+          pub limit-acts : Acted s₀ t s u i e
+          limit-acts =
+              subst⁻¹ (Acted s₀ t s u i) limit-by-rule
+              (subst⁻¹ (λ (y : State). Acted s₀ t s y i (limitRule y i)) charged-is
+              (subst⁻¹ (λ (n : ℕ). Acted s₀ t s c n (limitRule c n)) at-head
               (record {
                 sendable =
-                    subst⁻¹ (λ (y : Thread). Sendable (s .word) (head s) (y .parameters) (s .lists) (limitEffect (c .now) false (threadAt c (head s) .parameters) (threadAt c (head s) .server) .place))
-                    (limit-thread (λ i. s .now - 1) s (g .mid) (some b) (limited q) (later b))
-                    (limited-sendable (λ i. s .now - 1) s (g .mid) (some b) (limited q) (later b) (not-rr q) _ (limit-not-upper (c .now) false (threadAt c (head s) .parameters) (threadAt c (head s) .server)));
-                going = subst⁻¹ (Going s₀ t) (limited-is (λ i. s .now - 1) s (g .mid) (some b) (limited q) (later b) (not-rr q)) (turn-limit s₀ s t g (some b) (by b) top (limited q) .0);
+                    subst⁻¹ (λ (y : Thread). Sendable (s .word) (head s) (y .parameters) (s .lists) (limitRule c (head s) .place))
+                    (limit-thread (λ i. s .now - 1) s (g .mid) (some b) limited (later b))
+                    (limited-sendable (λ i. s .now - 1) s (g .mid) (some b) limited (later b) not-rr _ (limit-not-upper (c .now) false (threadAt c (head s) .parameters) (threadAt c (head s) .server)));
+                going = subst⁻¹ (Going s₀ t) (limited-is (λ i. s .now - 1) s (g .mid) (some b) limited (later b) not-rr) (turn-limit s₀ s t g (some b) (by b) top limited .0);
                 falls =
-                    subst⁻¹ (λ (y : State). weight t y < weight t s) (limited-is (λ i. s .now - 1) s (g .mid) (some b) (limited q) (later b) (not-rr q))
-                    (turn-limit s₀ s t g (some b) (by b) top (limited q) .1);
-              }))
-          go false q =
-              let e = unlimited q in
-              subst⁻¹ (λ (n : ℕ). Acted r c n (rule c n)) (j-due q)
-              (subst⁻¹ (Acted r c (firstOf s .thread)) (cond-false (eqb m l) _ _ q)
-              (record {
-                sendable = due-sendable (λ i. c .now - 1) c (goes q .mid) (firstOf s .thread) (first-small q) (here q .1);
-                going = turn-due s₀ s t g (some b) (by b) top e .0;
-                falls = turn-due s₀ s t g (some b) (by b) top e .1;
-              }))
+                    subst⁻¹ (λ (y : State). weight t y < weight t s) (limited-is (λ i. s .now - 1) s (g .mid) (some b) limited (later b) not-rr)
+                    (turn-limit s₀ s t g (some b) (by b) top limited .1);
+              })))
 
-      -- and on the state in place, with the numbers that the code reads
-      abbrev effectBy : Bool → Effect
-      effectBy a =
-          cond a (limitEffect m false (threadAt u j .parameters) (threadAt u j .server))
-          (returnEffect m (isBlocked (threadAt u j)) (threadAt u j .parameters) (getD (s .counts) j 0) (getD (s .amounts) (j * 8) 0) (threadAt u j .server))
+          -- the thread can be sent, by the head's number and the parameters that were read
+          pub limit-sendable : Sendable (s .word) h (w .parameters) (s .lists) (e .place)
+          limit-sendable =
+              subst⁻¹ (λ (y : Thread). Sendable (s .word) h (y .parameters) (s .lists) (e .place)) limit-read
+              (subst (λ (n : ℕ). Sendable (s .word) n (threadAt u i .parameters) (s .lists) (e .place)) (v .at) (limit-acts .sendable))
 
-      rule-is : (a : Bool) → a ≡ eqb m l → effectBy a ≡ rule u j
-      rule-is a f =
-          ap (λ (x : ℕ). cond a (limitEffect m false (threadAt u j .parameters) (threadAt u j .server))
-          (returnEffect m (isBlocked (threadAt u j)) (threadAt u j .parameters) (getD (s .counts) j 0) x (threadAt u j .server))) (sym (row-first j (s .amounts)))
-          ∙ ap (λ (x : Bool). cond x (limitEffect m false (threadAt u j .parameters) (threadAt u j .server))
-          (returnFirst m (isBlocked (threadAt u j)) (threadAt u j .parameters) (accountAt u j))) f
+          pub limit-goes-down : e .place ≡ Upper → ⊥
+          limit-goes-down d = limit-not-upper m false (w .parameters) (w .server) (sym (ap (λ (y : Effect). y .place) f) ∙ d)
 
-      pub acts : (a : Bool) → a ≡ eqb m l → (e : Effect) → e ≡ effectBy a → Acted r u j e
-      acts a f e h = subst⁻¹ (Acted r u j) (h ∙ rule-is a f) (subst⁻¹ (λ (y : State). Acted r y j (rule y j)) charged-is on-charged)
+          -- it takes no entry, and has room for one
+          pub limit-first-stays : e .first ≡ false
+          limit-first-stays = ap (λ (y : Effect). y .first) f ∙ limit-keeps m (w .parameters) (w .server) false
 
-      -- an entry to go, or room for one
-      pub room : (a : Bool) → a ≡ eqb m l → (e : Effect) → e ≡ effectBy a → Room (e .first) (e .amount) (getD (s .counts) j 0)
-      room true f e h =
-          subst⁻¹ (λ (x : Effect). Room (x .first) (x .amount) (getD (s .counts) j 0)) h
-          (limit-room m (threadAt u j .parameters) (threadAt u j .server) false (getD (s .counts) j 0) (limit-requires (sym f)))
-      room false f e h =
-          subst⁻¹ (λ (x : Effect). Room (x .first) (x .amount) (getD (s .counts) j 0)) h
-          (return-room m (threadAt u j .parameters) (threadAt u j .server) (isBlocked (threadAt u j)) (getD (s .counts) j 0) (getD (s .amounts) (j * 8) 0))
+          pub room : Room (e .first) (e .amount) (getD (s .counts) i 0)
+          room =
+              subst⁻¹ (λ (y : Effect). Room (y .first) (y .amount) (getD (s .counts) i 0)) f
+              (limit-room m (w .parameters) (w .server) false (getD (s .counts) i 0) limit-requires)
 
-      -- ---- the next due after a limit
+          pub limit-slots : (k n y : ℕ) (xs ys : List ℕ) → ys ≡ withSlots i (slotsAfter false (e .amount) k n y (slotsAt i xs)) xs
+              → ys ≡ withSlots i (slotsAfter (e .first) (e .amount) k n y (slotsAt i xs)) xs
+          limit-slots k n y xs ys a = a ∙ ap (λ (o : Bool). withSlots i (slotsAfter o (e .amount) k n y (slotsAt i xs)) xs) (sym limit-first-stays)
 
-      abbrev Known : Due → ℕ → List ℕ → Type 0
-      Known y count dues = NextAfter x j count (getD dues (j * 8) 0) y → y ≡ nextDue (set (s .counts) j count) dues (s .header .n)
+          -- what the writes leave: the thread was not stored before
+          module _ (p : Put u i w e) where
+            abbrev pub limitState : State
+            limitState =
+                stateOf (s .header) m idle (p .word) (set (s .threads) i (p .thread)) (set (s .counts) i (p .count)) (p .dues) (p .amounts) (p .lists)
 
-      limited-known : eqb m l ≡ true → (e : Effect) → e .first ≡ false → Room (e .first) (e .amount) (getD (s .counts) j 0)
-          → (y : Due) → Known y (pendingAfter e (pendingAt u j) .count) (withSlots j (pendingAfter e (pendingAt u j) .dues) (s .dues))
-      limited-known q e z r y f =
-          let w = limit-entries e (pendingAt u j) z r (row-length j (s .dues) number-small (omega (tests, g .mid .sizes))) in
-          f (set (s .counts) j (pendingAfter e (pendingAt u j) .count)) (withSlots j (pendingAfter e (pendingAt u j) .dues) (s .dues)) (s .header .n)
-          (came (s .counts) (s .dues) (s .header .n) j (omega (tests, g .mid .sizes)) number-small (omega (tests, g .mid .sizes)) (omega (tests, g .mid .sizes))
-          (pendingAfter e (pendingAt u j)) (w .0) (λ c. omega (arith, j-head q, here)) (λ c. let z = w .1 c in (z .0, omega (arith, z .1, row-first j (s .dues)))) x (v .first))
-        where
-          here : head s < s .header .n
-          here = limited-present (λ i. s .now - 1) s (g .mid) (some b) (limited q) (later b) (not-rr q)
+            limit-state : limitState ≡ putState u i w e p
+            limit-state =
+                λ y. stateOf (s .header) m idle (p .word) (sym (set-set (s .threads) i w (p .thread)) y) (set (s .counts) i (p .count)) (p .dues) (p .amounts) (p .lists)
 
-      pub limit-due : (a : Bool) → a ≡ eqb m l → (e : Effect) → e ≡ effectBy a → a ≡ true → (p : Put u j e) (y : Due)
-          → NextAfter x j (p .count) (getD (p .dues) (j * 8) 0) y → y ≡ firstOf (putState u j e p)
-      limit-due a f e h q p y =
-          subst₂ (Known y) (sym (p .count-is)) (sym (p .dues-is))
-          (limited-known (sym f ∙ q) e
-          (ap (λ (x : Effect). x .first) (h ∙ cond-true a _ _ q) ∙ limit-keeps m (threadAt u j .parameters) (threadAt u j .server) false)
-          (room a f e h) y)
+            pub limit-turn : Going s₀ t limitState × (weight t limitState < weight t s)
+            limit-turn =
+                subst⁻¹ (λ (y : State). Going s₀ t y × (weight t y < weight t s)) limit-state
+                (put-going s₀ t s u i w e p limit-acts, put-falls s₀ t s u i w e p limit-acts)
 
-      -- ---- what is told of it
+            -- the next due, without a search
+            pub limit-due : (y : Due) → NextAfter x i (p .count) (getD (p .dues) (i * 8) 0) y → y ≡ firstOf limitState
+            limit-due y = subst₂ Known (sym (p .count-is)) (sym (p .dues-is)) known
+              where
+                Known : ℕ → List ℕ → Type 0
+                Known count dues = NextAfter x i count (getD dues (i * 8) 0) y → y ≡ nextDue (set (s .counts) i count) dues (s .header .n)
 
-      abbrev limitOn : State → ℕ → Effect
-      limitOn y n = limitEffect (y .now) false (threadAt y n .parameters) (threadAt y n .server)
+                known : Known (pendingAfter e (pendingAt u i) .count) (withSlots i (pendingAfter e (pendingAt u i) .dues) (s .dues))
+                known f =
+                    let a = limit-entries e (pendingAt u i) limit-first-stays room (row-length i (s .dues) at-small (omega (tests, g .mid .sizes))) in
+                    let here = limited-present (λ i. s .now - 1) s (g .mid) (some b) limited (later b) not-rr in
+                    f (set (s .counts) i (pendingAfter e (pendingAt u i) .count)) (withSlots i (pendingAfter e (pendingAt u i) .dues) (s .dues)) (s .header .n)
+                    (came (s .counts) (s .dues) (s .header .n) i (omega (tests, g .mid .sizes)) at-small (omega (tests, g .mid .sizes)) (omega (tests, g .mid .sizes))
+                    (pendingAfter e (pendingAt u i)) (a .0) (λ c. omega (arith, at-head, here)) (λ c. let d = a .1 c in (d .0, omega (arith, d .1, row-first i (s .dues)))) x (v .first))
 
-      abbrev returnOn : State → ℕ → Effect
-      returnOn y n = returnFirst (y .now) (isBlocked (threadAt y n)) (threadAt y n .parameters) (accountAt y n)
+            pub limit-told : (told : List ℕ) → Telling s₀ t s told → Telling s₀ t limitState (moreOf i (plus (tally 1 0 0 0) (returned e)) told)
+            limit-told told y =
+                subst⁻¹ (λ (a : State). Telling s₀ t a (moreOf i (plus (tally 1 0 0 0) (returned e)) told)) (limit-state ∙ put-is u i w e p)
+                (subst⁻¹ (λ (x : Effect). Telling s₀ t (withEffect i x u) (moreOf i (plus (tally 1 0 0 0) (returned x)) told)) limit-by-rule
+                (subst⁻¹ (λ (a : State). Telling s₀ t (withEffect i (limitRule a i) a) (moreOf i (plus (tally 1 0 0 0) (returned (limitRule a i))) told)) charged-is
+                (subst⁻¹ (λ (n : ℕ). Telling s₀ t (withEffect n (limitRule c n) c) (moreOf n (plus (tally 1 0 0 0) (returned (limitRule c n))) told)) at-head
+                (subst⁻¹ (λ (a : State). Telling s₀ t a (moreOf (head s) (plus (tally 1 0 0 0) (returned (limitRule c (head s)))) told))
+                (limited-is (λ i. s .now - 1) s (g .mid) (some b) limited (later b) not-rr)
+                (tell-limit s₀ s t told g y (some b) (by b) top limited (omega (arith, at-small, at-head)) not-rr)))))
 
-      -- a limit, and what came back at once
-      module _ (a : Bool) (f : a ≡ eqb m l) (e : Effect) (h : e ≡ effectBy a) (q : a ≡ true) where
-        at-limit : eqb m l ≡ true
-        at-limit = sym f ∙ q
+          pub limit-small : e .back ≤ 1000000000
+          limit-small =
+              omega (
+                arith,
+                ap (λ (x : Effect). x .back) limit-by-rule,
+                limit-back m (threadAt u i .parameters) (threadAt u i .server) false,
+                ap₂ (λ (y : State) (n : ℕ). threadAt y n .server .used) charged-is at-head,
+                limited-used (λ i. s .now - 1) s (g .mid) (some b) limited (later b) not-rr,
+              )
 
-        is-limit-on : e ≡ limitOn u j
-        is-limit-on = h ∙ cond-true a _ _ q
+    -- ---- a due that is no limit: it comes back in the next turn
 
-        pub limit-small : e .back ≤ 1000000000
-        limit-small =
-            omega (
-              arith,
-              ap (λ (x : Effect). x .back) is-limit-on,
-              limit-back m (threadAt u j .parameters) (threadAt u j .server) false,
-              ap₂ (λ (y : State) (n : ℕ). threadAt y n .server .used) charged-is (j-head at-limit),
-              limited-used (λ i. s .now - 1) s (g .mid) (some b) (limited at-limit) (later b) (not-rr at-limit),
-            )
+    module _ (q : eqb m l ≡ false) (n : dueBy (x .due) (s .now) ≡ false) where
+      unlimited : limit s ≡ next s → ⊥
+      unlimited e = eqb-false m l q (is-next ∙ sym e ∙ sym is-limit)
 
-        pub limit-told : (p : Put u j e) (told : List ℕ) → Telling s₀ t s told → Telling s₀ t (putState u j e p) (moreOf j (plus (tally 1 0 0 0) (returned e)) told)
-        limit-told p told y =
-            subst⁻¹ (λ (v : State). Telling s₀ t v (moreOf j (plus (tally 1 0 0 0) (returned e)) told)) (put-is u j e p)
-            (subst⁻¹ (λ (x : Effect). Telling s₀ t (withEffect j x u) (moreOf j (plus (tally 1 0 0 0) (returned x)) told)) is-limit-on
-            (subst⁻¹ (λ (v : State). Telling s₀ t (withEffect j (limitOn v j) v) (moreOf j (plus (tally 1 0 0 0) (returned (limitOn v j))) told)) charged-is
-            (subst⁻¹ (λ (n : ℕ). Telling s₀ t (withEffect n (limitOn c n) c) (moreOf n (plus (tally 1 0 0 0) (returned (limitOn c n))) told)) (j-head at-limit)
-            (subst⁻¹ (λ (v : State). Telling s₀ t v (moreOf (head s) (plus (tally 1 0 0 0) (returned (limitOn c (head s)))) told))
-            (limited-is (λ i. s .now - 1) s (g .mid) (some b) (limited at-limit) (later b) (not-rr at-limit))
-            (tell-limit s₀ s t told g y (some b) (by b) top (limited at-limit) (omega (arith, at-small, at-head at-limit)) (not-rr at-limit))))))
+      due-after : s .now < next s
+      due-after =
+          let d = is-due s₀ s t g (some b) (by b) top unlimited .0 in
+          omega (arith, some b, d, ap (λ (y : Due). y .due) (v .first), due-false (x .due) (s .now) n (omega (arith, some b, d, ap (λ (y : Due). y .due) (v .first))))
 
-      -- what was due
-      module _ (a : Bool) (f : a ≡ eqb m l) (e : Effect) (h : e ≡ effectBy a) (q : a ≡ false) where
-        no-limit : eqb m l ≡ false
-        no-limit = sym f ∙ q
+      pub charged-turn : Going s₀ t u × (weight t u < weight t s)
+      charged-turn =
+          subst⁻¹ (λ (y : State). Going s₀ t y × (weight t y < weight t s)) charged-is (turn-charged s₀ s t g (some b) (by b) top unlimited due-after)
 
-        is-return-on : e ≡ returnOn u j
-        is-return-on = h ∙ rule-is a f ∙ cond-false (eqb m l) _ _ no-limit
-
-        pub return-small : e .back ≤ 1000000000
-        return-small =
-            omega (
-              arith,
-              ap (λ (x : Effect). x .back) is-return-on,
-              return-back m (threadAt u j .parameters) (threadAt u j .server) (isBlocked (threadAt u j)) (getD (s .counts) j 0) (getD (slotsAt j (s .amounts)) 0 0) 1000000000
-                  (first-amount (λ i. c .now - 1) c (goes no-limit .mid) j number-small (omega (arith, here no-limit .1, ap (λ (n : ℕ). getD (s .counts) n 0) (j-due no-limit)))),
-            )
-
-        pub return-told : (p : Put u j e) (told : List ℕ) → Telling s₀ t s told → Telling s₀ t (putState u j e p) (moreOf j (returned e) told)
-        return-told p told y =
-            subst⁻¹ (λ (v : State). Telling s₀ t v (moreOf j (returned e) told)) (put-is u j e p)
-            (subst⁻¹ (λ (x : Effect). Telling s₀ t (withEffect j x u) (moreOf j (returned x) told)) is-return-on
-            (subst⁻¹ (λ (v : State). Telling s₀ t (withEffect j (returnOn v j) v) (moreOf j (returned (returnOn v j)) told)) charged-is
-            (subst⁻¹ (λ (n : ℕ). Telling s₀ t (withEffect n (returnOn c n) c) (moreOf n (returned (returnOn c n)) told)) (j-due no-limit)
-            (tell-return s₀ s t told g y (some b) (by b) top (unlimited no-limit) (first-small no-limit)))))
+      pub charged-told : (told : List ℕ) → Telling s₀ t s told → Telling s₀ t u told
+      charged-told told y = subst⁻¹ (λ (a : State). Telling s₀ t a told) charged-is (tell-charged s₀ s t told g y (some b) (by b) top unlimited)

@@ -127,6 +127,15 @@ module _ (s : State) (h : Mid s) (t : ℕ) (q : 0 < firstOf s .due → s .now < 
       (settled-same s h q)
       ∙ none-both (reported s t)
 
+-- the first that is due now: what it tells, then the rest
+pub rest-back : (s : State) → Mid s → (t : ℕ) → (firstOf s .thread ≡ 32 → ⊥) → firstOf s .due ≤ s .now
+    → rest s t ≡ both (tallied (returnLog (firstOf s .thread) s ∷ [])) (rest (firstReturned (firstOf s .thread) s) t)
+rest-back s h t d e =
+    let v = firstReturned (firstOf s .thread) s in
+    ap₂ (λ (xs : Log) (w : State). both (tallied xs) (reported w t)) (backed-log s h d e) (sym (backed-same s h d e))
+    ∙ ap (λ (f : ℕ → Tally). both f (reported (replenishBelow (s .header .n) v) t)) (tallied-append (returnLog (firstOf s .thread) s ∷ []) (belowLog (s .header .n) v))
+    ∙ both-both (tallied (returnLog (firstOf s .thread) s ∷ [])) (tallied (belowLog (s .header .n) v)) (reported (replenishBelow (s .header .n) v) t)
+
 -- where the loop begins, the whole is still to be told
 pub rest-start : (s : State) (t : ℕ) → Sound s → rest s t ≡ reported s t
 rest-start s t h = rest-settled s (sound-mid s h) t (due-later s (λ p. later s h p))
@@ -161,7 +170,7 @@ module _ (s₀ s : State) (t : ℕ) (g : Going s₀ t s) where
     -- a turn without one: the first that is due at the next moment, which may be now
     module _ (e : limit s ≡ next s → ⊥) where
       -- no limit: nothing is told up to it
-      charged-rest : rest s t ≡ rest u t
+      pub charged-rest : rest s t ≡ rest u t
       unfolding before
       charged-rest = go (ltb (s .now) (next s)) refl
         where
@@ -180,12 +189,4 @@ module _ (s₀ s : State) (t : ℕ) (g : Going s₀ t s) where
               sym (ap (λ (k : ℕ). rest (charge k s) t) q ∙ ap (λ (v : State). rest v t) (charge-none s))
 
       pub rest-return : rest s t ≡ both (tallied (returnLog (firstOf s .thread) u ∷ [])) (rest (firstReturned (firstOf s .thread) u) t)
-      rest-return =
-          let c = charged-going s₀ s t g p l top e in
-          let d = due-some s₀ s t g p l top e in
-          let n = due-now s₀ s t g p l top e in
-          let v = firstReturned (firstOf s .thread) u in
-          charged-rest
-          ∙ ap₂ (λ (xs : Log) (w : State). both (tallied xs) (reported w t)) (backed-log u (c .mid) d n) (sym (backed-same u (c .mid) d n))
-          ∙ ap (λ (f : ℕ → Tally). both f (reported (replenishBelow (s .header .n) v) t)) (tallied-append (returnLog (firstOf s .thread) u ∷ []) (belowLog (s .header .n) v))
-          ∙ both-both (tallied (returnLog (firstOf s .thread) u ∷ [])) (tallied (belowLog (s .header .n) v)) (reported (replenishBelow (s .header .n) v) t)
+      rest-return = charged-rest ∙ rest-back u (charged-going s₀ s t g p l top e .mid) t (due-some s₀ s t g p l top e) (due-now s₀ s t g p l top e)

@@ -17,7 +17,7 @@ use Rattle.sporadic.specs.declared.Effect.{Effect}
 use Rattle.sporadic.specs.declared.Place.{Place}
 use Rattle.sporadic.specs.declared.Place.the-variants.{Stays, Low, LowThenUpper, Upper}
 use Rattle.account.specs.Account.{isUpper}
-use Rattle.sporadic.specs.Rules.{atUpper, charged, limitEffect}
+use Rattle.sporadic.specs.Rules.{atUpper, charged, limitEffect, returnEffect}
 use Rattle.account.specs.Rules.{Schedulable, returnFirst}
 use Rattle.sporadic.proofs.EffectLaws.{limit-elim, at-limit-elim, return-elim}
 use Rattle.account.specs.Sound.{runsUpper}
@@ -35,7 +35,7 @@ use Rattle.state.proofs.SoundLaws.ThreadSound.{absent, fifo, rr, sporadic}
 use Rattle.ticks.specs.Running.{level, head, idles, ran, charge, limitOf, limit, next}
 use Rattle.ticks.proofs.RunLaws.{limit-rr, limit-upper, limit-lower}
 use Rattle.records.proofs.PolicyLaws.{by-zero, by-one, by-two, by-more}
-use Rattle.moments.specs.Changes.{withEffect}
+use Rattle.moments.specs.Changes.{sentTo, withEffect}
 use Rattle.moments.specs.Moments.{quantumEnded, limits}
 use Rattle.rows.specs.Rows.{slotsAt}
 use Rattle.moments.proofs.ChargeLaws.{Runs, runs, upper-at, ran-upper}
@@ -72,7 +72,20 @@ limit-not-upper now b p v =
     let P : Effect → Type 0 = λ e. e .place ≡ Upper → ⊥ in
     limit-elim now p v b P (λ f. stays-upper f) (at-limit-elim now p v P (λ u f. low-upper f) (λ u d f. then-upper f) (λ u d f. low-upper f))
 
--- what `send` requires
+pub return-not-low : (now : ℕ) (b : Bool) (p : Parameters) (count amount : ℕ) (v : Server) → returnEffect now b p count amount v .place ≡ Low → ⊥
+return-not-low now b p count amount v =
+    return-elim now p v b count amount (λ (e : Effect). e .place ≡ Low → ⊥) (λ z f. stays-low f) (λ c u f. stays-low f) (λ c w u f. upper-low f)
+
+pub return-not-then : (now : ℕ) (b : Bool) (p : Parameters) (count amount : ℕ) (v : Server) → returnEffect now b p count amount v .place ≡ LowThenUpper → ⊥
+return-not-then now b p count amount v =
+    return-elim now p v b count amount (λ (e : Effect). e .place ≡ LowThenUpper → ⊥) (λ z f. stays-then f) (λ c u f. stays-then f) (λ c w u f. upper-then f)
+
+-- an arm of a match does what the definition says of its place
+pub sent-arm : (i : ℕ) (p : Parameters) (l m : List ℕ) (w : ℕ) (x y : Place) → x ≡ y → m ≡ sentTo y i p l → w ≡ occupancy (sentTo y i p l)
+    → (m ≡ sentTo x i p l) × (w ≡ occupancy (sentTo x i p l))
+sent-arm i p l m w x y e f g = (f ∙ sym (ap (λ (z : Place). sentTo z i p l) e), g ∙ sym (ap (λ (z : Place). occupancy (sentTo z i p l)) e))
+
+-- what `send_up` and `send_down` require
 pub record Sendable (word i : ℕ) (p : Parameters) (l : List ℕ) (x : Place) : Type 0 where
   pub stays : x ≡ Stays → word ≡ occupancy l
   pub low : x ≡ Low → Movable word i (p .priority) (p .low) l

@@ -22,8 +22,8 @@ use Rattle.moments.specs.Moments.{limits, firstReturned}
 use Rattle.moments.specs.Reports.{limitLog, reported}
 use Rattle.moments.proofs.ChargeLaws.{limit-later}
 use Rattle.moments.proofs.StepLaws.{quantum-chosen, limit-chosen}
-use Rattle.moments.proofs.TurnLaws.{firstOf, Going}
-use Rattle.moments.proofs.ReportLaws.{rest, rest-start, rest-done, rest-limit, rest-return}
+use Rattle.moments.proofs.TurnLaws.{firstOf, Mid, first-small, Going}
+use Rattle.moments.proofs.ReportLaws.{rest, rest-back, rest-start, rest-done, rest-limit, charged-rest}
 use Rattle.moments.proofs.ReportBounds.{reported-most}
 
 pub record Telling (s₀ : State) (t : ℕ) (s : State) (told : List ℕ) : Type 0 where
@@ -80,16 +80,25 @@ module _ (s₀ s : State) (t : ℕ) (told : List ℕ) (g : Going s₀ t s) (h : 
         ∙ ap (λ (f : ℕ → Tally). both (both (ofThread (head s) (tally 1 0 0 0)) f) (rest (limits u) t)) (both-none (ofThread (head s) (returned limited)))
         ∙ ap (λ (f : ℕ → Tally). both f (rest (limits u) t)) (of-thread-plus (head s) (tally 1 0 0 0) (returned limited)))
 
-  -- the first entry that is due
-  module _ (e : limit s ≡ next s → ⊥) (small : firstOf s .thread < 32) where
-    abbrev back : Effect
-    back = returnFirst (u .now) (isBlocked (threadAt u (firstOf s .thread))) (threadAt u (firstOf s .thread) .parameters) (accountAt u (firstOf s .thread))
+  -- ticks up to a due alone tell nothing
+  pub tell-charged : (limit s ≡ next s → ⊥) → Telling s₀ t u told
+  tell-charged e =
+      record {
+        sofar = h .sofar;
+        numbered = h .numbered;
+        whole = ap (both (h .sofar)) (sym (charged-rest s₀ s t g p l top e)) ∙ h .whole;
+      }
 
-    pub tell-return : Telling s₀ t (firstReturned (firstOf s .thread) u) (moreOf (firstOf s .thread) (returned back) told)
-    tell-return =
-        let i = firstOf s .thread in
-        tell-more s₀ s (firstReturned i u) t i (returned back) told h small
-        (rest-return s₀ s t g p l top e ∙ ap (λ (f : ℕ → Tally). both f (rest (firstReturned i u) t)) (both-none (ofThread i (returned back))))
+-- the first entry that is due now
+module _ (s₀ s : State) (t : ℕ) (told : List ℕ) (m : Mid s) (h : Telling s₀ t s told) (d : firstOf s .thread ≡ 32 → ⊥) (e : firstOf s .due ≤ s .now) where
+  abbrev back : Effect
+  back = returnFirst (s .now) (isBlocked (threadAt s (firstOf s .thread))) (threadAt s (firstOf s .thread) .parameters) (accountAt s (firstOf s .thread))
+
+  pub tell-back : Telling s₀ t (firstReturned (firstOf s .thread) s) (moreOf (firstOf s .thread) (returned back) told)
+  tell-back =
+      let i = firstOf s .thread in
+      tell-more s₀ s (firstReturned i s) t i (returned back) told h (first-small s m d e)
+      (rest-back s m t d e ∙ ap (λ (f : ℕ → Tally). both f (rest (firstReturned i s) t)) (both-none (ofThread i (returned back))))
 
 -- ---- no sum wraps
 

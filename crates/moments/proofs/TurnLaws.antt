@@ -391,6 +391,11 @@ module _ (s₀ s : State) (t : ℕ) (g : Going s₀ t s) where
               let q : next s - s .now ≡ 0 = omega (arith, ltb-false (s .now) (next s) r) in
               subst⁻¹ (λ (k : ℕ). Going s₀ t (charge k s)) q (subst⁻¹ (Going s₀ t) (charge-none s) g)
 
+      -- where it is after now, a turn charges the ticks up to it and does no more
+      pub turn-charged : s .now < next s → Going s₀ t u × (weight t u < weight t s)
+      unfolding weight
+      turn-charged q = (charged-going, omega arith)
+
       pub due-now : firstOf s .due ≤ u .now
       due-now = omega (arith, is-due .0, not-past)
 
@@ -405,3 +410,16 @@ module _ (s₀ s : State) (t : ℕ) (g : Going s₀ t s) where
             },
             omega (arith, backed-fewer u (c .mid) due-some due-now, not-past),
           )
+
+-- what is due now: a turn returns the first entry of it
+pub turn-back : (s₀ s : State) (t : ℕ) → Going s₀ t s → (firstOf s .thread ≡ 32 → ⊥) → firstOf s .due ≤ s .now
+    → Going s₀ t (firstReturned (firstOf s .thread) s) × (weight t (firstReturned (firstOf s .thread) s) < weight t s)
+unfolding weight
+turn-back s₀ s t g d e = (
+  record {
+    mid = backed-mid s (g .mid) d e;
+    by = g .by;
+    same = ap (λ (v : State). passed v t) (backed-same s (g .mid) d e) ∙ g .same;
+  },
+  omega (arith, backed-fewer s (g .mid) d e),
+)

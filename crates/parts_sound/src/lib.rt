@@ -67,7 +67,7 @@ pub fn sound_parts<'a>(
         if left < t.total {
             return false;
         }
-        places[i] = thread::assigned_place(t, counts[i]);
+        places[i] = thread_place::assigned_place(t, counts[i]);
         left = left - t.total;
         i = i + 1;
     }
