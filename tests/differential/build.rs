@@ -11,6 +11,7 @@ fn main() {
         "board_search",
         "board_bound",
         "board_shares",
+        "share_listing",
         "board_trace",
         "board_replay",
         "board_text",

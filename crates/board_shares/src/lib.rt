@@ -4,23 +4,62 @@
 // enum that holds values, so each answer goes as its numbers. None has a `requires`: any state and any thread number may be handed in.
 ghost use mathlib.Core.Path.{_≡_};
 ghost use Rattle.state.specs.Updates.{whole};
-ghost use Rattle.shares.specs.Shares.{shareOf, summarizedOf};
-ghost use Rattle.share_replies.specs.Replies.{shareReply, summaryReply};
-ghost use lib.ListN.{replicate};
-ghost use Rattle.text.specs.Placed.{Put};
-ghost use Rattle.share_listing.specs.ShareListing.{shareListing, largest};
+ghost use Rattle.shares.specs.Shares.{shareOf};
+ghost use Rattle.share_summary.specs.Summaries.{summarizedOf};
+ghost use Rattle.board_shares.specs.Replies.{shareReply, noSummary, summaryReply};
 use rows::Slots;
-use share_listing::LARGEST;
-use share_replies::ShareReply;
-use share_replies::SummaryReply;
+use share_summary::Summarized;
+use shares::Share;
 use state::Core;
+
+// The answer in numbers: 0 a share, 1 no time, 2 a refusal; then the refusal's number and the share. What doesn't apply is 0.
+#[repr(C)]
+pub struct ShareReply {
+    pub form: u8,
+    pub status: u8,
+    pub share: f64,
+}
+
+// The same of the summary.
+#[repr(C)]
+pub struct SummaryReply {
+    pub form: u8,
+    pub status: u8,
+    pub largest_thread: u8,
+    pub smallest_thread: u8,
+    pub largest: f64,
+    pub smallest: f64,
+}
+
+// A share's answer in numbers.
+fn share_reply(x: Share) -> ShareReply
+    ensures { λ r. ⌜ r ≡ shareReply x ⌝ }
+{
+    match x {
+        Share::Of(share) => ShareReply {
+            form: 0,
+            status: 0,
+            share,
+        },
+        Share::NoTime => ShareReply {
+            form: 1,
+            status: 0,
+            share: 0.0,
+        },
+        Share::Refused(status) => ShareReply {
+            form: 2,
+            status,
+            share: 0.0,
+        },
+    }
+}
 
 // The share of a thread in numbers, for a core by value.
 fn share_numbers<'a>(c: Core, dues: &'a Slots, amounts: &'a Slots, thread: u8) -> ShareReply
     ensures { λ r. ⌜ r ≡ shareReply (shareOf (whole c (now (dues .entry)) (now (amounts .entry))) thread) ⌝ }
 {
     let x = shares::share_of(c, dues, amounts, thread);
-    share_replies::share_reply(x)
+    share_reply(x)
 }
 
 // The share of a thread of a lent state.
@@ -36,12 +75,44 @@ pub extern "C" fn thawonlai_share<'c, 'a>(
     share_numbers(*core, dues, amounts, thread)
 }
 
+// A reply that holds no summary.
+fn no_summary(form: u8, status: u8) -> SummaryReply
+    ensures { λ r. ⌜ r ≡ noSummary form status ⌝ }
+{
+    SummaryReply {
+        form,
+        status,
+        largest_thread: 0,
+        smallest_thread: 0,
+        largest: 0.0,
+        smallest: 0.0,
+    }
+}
+
+// A summary's answer in numbers.
+fn summary_reply(x: Summarized) -> SummaryReply
+    ensures { λ r. ⌜ r ≡ summaryReply x ⌝ }
+{
+    match x {
+        Summarized::Of(s) => SummaryReply {
+            form: 0,
+            status: 0,
+            largest_thread: s.largest_thread,
+            smallest_thread: s.smallest_thread,
+            largest: s.largest,
+            smallest: s.smallest,
+        },
+        Summarized::NoTime => no_summary(1, 0),
+        Summarized::Refused(status) => no_summary(2, status),
+    }
+}
+
 // The summary in numbers, for a core by value.
 fn summary_numbers<'a>(c: Core, dues: &'a Slots, amounts: &'a Slots) -> SummaryReply
     ensures { λ r. ⌜ r ≡ summaryReply (summarizedOf (whole c (now (dues .entry)) (now (amounts .entry)))) ⌝ }
 {
-    let x = shares::summary_of(c, dues, amounts);
-    share_replies::summary_reply(x)
+    let x = share_summary::summary_of(c, dues, amounts);
+    summary_reply(x)
 }
 
 // The largest and the smallest share of a lent state, and the thread of each.
@@ -54,12 +125,4 @@ pub extern "C" fn thawonlai_share_summary<'c, 'a>(
     ensures { λ r. ⌜ r ≡ summaryReply (summarizedOf (whole (now (core .entry)) (now (dues .entry)) (now (amounts .entry)))) ⌝ }
 {
     summary_numbers(*core, dues, amounts)
-}
-
-// The lines of a trace's shares, at the start of a buffer of 4,096 bytes, with zeros after them; how many bytes they are.
-#[no_mangle]
-pub extern "C" fn thawonlai_share_listing(file: &[u8], out: &mut [u8; LARGEST]) -> usize
-    ensures { λ r. ⌜ Put (replicate largest 0) 0 (shareListing (now (file .entry))) (now (out .exit)) r ⌝ }
-{
-    share_listing::share_listing(file, out)
 }

@@ -11,8 +11,8 @@ use lib.Ieee.Exact.{HasValue, round-exact}
 use lib.Ieee.Order.{round-mono}
 use lib.Ieee.Positive.{num, den, positive, own-value, positive-of-value, values-of-le, between}
 use Rattle.decimals.specs.Decimals.{InUnit}
-use Rattle.shares.specs.Shares.{quotient}
-use Rattle.shares.proofs.QuotientLaws.{nearest-quotient}
+use Rattle.quotient.specs.Quotient.{quotient}
+use Rattle.quotient.proofs.QuotientLaws.{nearest-quotient}
 
 -- 2^-50 and 1 as floats
 least : HasValue (round binary64 false 1 (2 ^ 50)) false 1 (2 ^ 50)

@@ -1,38 +1,24 @@
--- How long a line can be, and lines that are put one after another.
-use Prim.Native.Nat.{ℕ, zero, suc, _+_, _*_, _^_, _≤_, _<_}
-use mathlib.Core.List.{List, [], _∷_, _++_}
-use mathlib.Core.Path.{_≡_, refl, sym, ap, _∙_, subst, subst⁻¹}
+-- How long a line's numbers can be, and lines that are put one after another.
+use Prim.Native.Nat.{ℕ, _+_, _≤_}
+use mathlib.Core.List.{List, _++_}
+use mathlib.Core.Path.{_≡_, sym, subst, subst⁻¹}
 use native.Mathlib.Omega.{arith}
 use lib.ListN.{length, length-append}
 use mir.Val.{Fits}
-use mir.Syntax.{w8, w64}
+use mir.Syntax.{w64}
 use Rattle.text.specs.Placed.{Put}
-use Rattle.text.specs.Decimal.{decimal}
-use Rattle.text.specs.Fields.{field, space, newline, labelled}
-use Rattle.text.proofs.DecimalLaws.{digits-fit}
+use Rattle.text.specs.Fields.{field, space}
+use Rattle.text.proofs.FieldLaws.{long-length}
 use Rattle.text.proofs.PlacedLaws.{nothing, after}
 use Rattle.trace.specs.Lists.{joined}
 use Rattle.trace.proofs.RunLaws.{joined-next}
 use Rattle.state.specs.declared.State.{State}
 use Rattle.shares.specs.declared.Share.{Share}
-use Rattle.shares.specs.declared.Summarized.{Summarized}
-use Rattle.shares.specs.Shares.{elapsed, totalAt, shareOf, summarizedOf}
+use Rattle.shares.specs.Shares.{elapsed, totalAt, shareOf}
+use Rattle.share_summary.specs.declared.Summarized.{Summarized}
+use Rattle.share_summary.specs.Summaries.{summarizedOf}
 use Rattle.share_lines.specs.Lines.{shareWord, shareText, shareLine, shareLines, summaryLines, sharesIn}
-use Rattle.share_lines.specs.Bounds.{longField, byteField, numbersMost}
-
-field-most : (k n end : ℕ) → 0 < k → n < 10 ^ k → length (field n end) ≤ k + 1
-unfolding field
-field-most k n end p h = omega (arith, length-append (decimal n) (end ∷ []), digits-fit k n p h)
-
-pub long-most : {n : ℕ} (end : ℕ) → Fits w64 n → length (field n end) ≤ longField
-long-most {n} end h = field-most 20 n end (omega arith) (omega arith)
-
-pub byte-most : {n : ℕ} (end : ℕ) → Fits w8 n → length (field n end) ≤ byteField
-byte-most {n} end h = field-most 3 n end (omega arith) (omega arith)
-
-pub labelled-most : (word : List ℕ) {n : ℕ} → Fits w64 n → length (labelled word n) ≤ length word + longField
-unfolding labelled
-labelled-most word {n} h = omega (arith, length-append word (field n newline), long-most newline h)
+use Rattle.share_lines.specs.Bounds.{numbersMost}
 
 pub numbers-most : {i total ticks : ℕ} → Fits w64 i → Fits w64 total → Fits w64 ticks
     → length (shareWord ++ field i space ++ field total space ++ field ticks space) ≤ numbersMost
@@ -42,17 +28,10 @@ numbers-most {i} {total} {ticks} a b c =
       length-append (shareWord ++ field i space ++ field total space) (field ticks space),
       length-append (shareWord ++ field i space) (field total space),
       length-append shareWord (field i space),
-      long-most space a,
-      long-most space b,
-      long-most space c,
+      long-length space a,
+      long-length space b,
+      long-length space c,
     )
-
--- bytes of at most k have room where k are left, and end at most k on
-pub within : {n k m : ℕ} (at : ℕ) → n ≤ k → at + k ≤ m → at + n ≤ m
-within at l h = omega arith
-
-pub ended : {o v o′ : List ℕ} {at r k : ℕ} → length v ≤ k → Put o at v o′ r → (Put o at v o′ r) × (r ≤ at + k)
-ended {v = v} l p = (p, omega (arith, p .next))
 
 -- the text of an equal share, and of an equal summary
 module _ {o o′ : List ℕ} {at r : ℕ} where

@@ -8,10 +8,13 @@ use Rattle.state.specs.declared.State.{State}
 use Rattle.state.specs.Sound.{soundState}
 use Rattle.decimals.specs.Decimals.{Shown, nothing, something}
 use Rattle.shares.specs.declared.Share.{Share}
-use Rattle.shares.specs.declared.Summarized.{Summarized}
-use Rattle.shares.specs.Shares.{quotient, elapsed, totalAt, mostOf, leastOf, shareOf, summarizedOf}
-use Rattle.shares.proofs.ShareLaws.{in-range, share-none, share-is, summary-none, summary-is}
-use Rattle.shares.proofs.QuotientLaws.{quotient-zero}
+use Rattle.quotient.specs.Quotient.{quotient}
+use Rattle.quotient.proofs.QuotientLaws.{quotient-zero}
+use Rattle.shares.specs.Shares.{elapsed, totalAt, shareOf}
+use Rattle.shares.proofs.ShareLaws.{in-range, share-none, share-is}
+use Rattle.share_summary.specs.declared.Summarized.{Summarized}
+use Rattle.share_summary.specs.Summaries.{mostOf, leastOf, summarizedOf}
+use Rattle.share_summary.proofs.SummaryLaws.{summary-none, summary-is}
 use Rattle.share_lines.specs.Bounds.{ShownShare, ShownSummary}
 use Rattle.share_lines.proofs.BoundLaws.{quotient-bounds}
 

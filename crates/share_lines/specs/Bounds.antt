@@ -2,18 +2,13 @@
 use Prim.Native.Nat.{ℕ, _+_, _*_}
 use lib.ListN.{length}
 use Rattle.records.specs.Ranges.{mostThreads}
+use Rattle.text.specs.Widths.{byteField, longField}
 use Rattle.decimals.specs.Decimals.{Shown, longestText}
-use Rattle.shares.specs.declared.{Share.Share, Summarized.Summarized}
+use Rattle.shares.specs.declared.Share.{Share}
 use Rattle.shares.specs.declared.Share.the-variants as share
-use Rattle.shares.specs.declared.Summarized.the-variants as summarized
+use Rattle.share_summary.specs.declared.Summarized.{Summarized}
+use Rattle.share_summary.specs.declared.Summarized.the-variants as summarized
 use Rattle.share_lines.specs.Lines.{shareWord, smallestWord}
-
--- a field of any number of 64 bits, with the byte after it; and of a byte's number
-abbrev pub longField : ℕ
-longField = 20 + 1
-
-abbrev pub byteField : ℕ
-byteField = 3 + 1
 
 -- a share and its newline
 abbrev pub endMost : ℕ

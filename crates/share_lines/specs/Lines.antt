@@ -4,9 +4,10 @@ use mathlib.Core.List.{List, [], _∷_, _++_}
 use Rattle.text.specs.Fields.{space, newline, field}
 use Rattle.state.specs.declared.State.{State}
 use Rattle.trace.specs.Lists.{joined}
-use Rattle.shares.specs.{declared.Share.Share, declared.Summarized.Summarized, Shares.elapsed, Shares.totalAt, Shares.shareOf, Shares.summarizedOf}
+use Rattle.shares.specs.{declared.Share.Share, Shares.elapsed, Shares.totalAt, Shares.shareOf}
 use Rattle.shares.specs.declared.Share.the-variants as share
-use Rattle.shares.specs.declared.Summarized.the-variants as summarized
+use Rattle.share_summary.specs.{declared.Summarized.Summarized, Summaries.summarizedOf}
+use Rattle.share_summary.specs.declared.Summarized.the-variants as summarized
 use Rattle.decimals.specs.Decimals.{floatText}
 
 -- the words `share`, `largest` and `smallest`, each with a space after it, and `none`

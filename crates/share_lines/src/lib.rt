@@ -30,9 +30,9 @@ ghost use Rattle.share_lines.specs.Bounds.{
 };
 ghost use Rattle.share_lines.specs.Lines.{sharesIn};
 use rows::Slots;
+use share_summary::Summarized;
+use share_summary::Summary;
 use shares::Share;
-use shares::Summarized;
-use shares::Summary;
 use state::Core;
 use text::put_byte;
 use text::put_field;
@@ -157,6 +157,6 @@ pub fn put_shares<'o, 'a>(
     ensures { λ r. ⌜ r ≤ at + shareLinesMost + summaryMost ⌝ }
 {
     let here = put_threads(out, at, c, dues, amounts);
-    let x = shares::summary_of(c, dues, amounts);
+    let x = share_summary::summary_of(c, dues, amounts);
     put_summary(out, here, x)
 }

@@ -1,32 +1,20 @@
--- In a sound state no total is larger than the elapsed time, and both are converted exactly. The summary's threads are the first with the
--- largest and the smallest total.
-use Prim.Native.Nat.{ℕ, zero, suc, _+_, _-_, _≤_, _<_, _^_}
-use mathlib.Core.Bool.{Bool, true, false, cond, not}
+-- In a sound state no total is larger than the elapsed time, and both are converted exactly. The cases of a share.
+use Prim.Native.Nat.{ℕ, zero, suc, _+_, _≤_, _<_}
+use mathlib.Core.Bool.{true, false}
 use mathlib.Core.List.{List, [], _∷_}
-use mathlib.Core.Path.{_≡_, refl, ap, _∙_}
+use mathlib.Core.Path.{_≡_, refl}
 use native.Mathlib.Omega.{arith}
-use lib.Dec.{ltb, leb, le→leb}
-use lib.Ieee.{inFloat, binary64}
-use lib.Ieee.Back.{unsigned-back}
-use lib.ListN.{getD}
-use borrow.Author.Tests.{ltb-true, ltb-false, le-leb, lt-leb}
-use Rattle.base.proofs.TestLaws.{tests, cond-elim}
+use borrow.Author.Tests.{le-leb, lt-leb}
+use Rattle.base.specs.Refusals.{firstRefusal}
+use Rattle.base.proofs.TestLaws.{tests}
 use Rattle.thread.specs.declared.Thread.{Thread}
-use Rattle.thread.specs.Thread.{noThread}
 use Rattle.state.specs.declared.State.{State}
 use Rattle.state.specs.Sound.{totals, soundState}
 use Rattle.state.proofs.SoundLaws.{state-out}
-use Rattle.base.specs.Refusals.{firstRefusal}
-use Rattle.shares.specs.Shares.{quotient, shareBy, shareOf, summaryOf, summarizedBy, summarizedOf, elapsed, totalAt, mostOf, leastOf, ConvertsExactly, InRange, FirstLargest, FirstSmallest, SummaryIsFirst}
-use Rattle.shares.specs.declared.Summary.{Summary}
+use Rattle.quotient.specs.Quotient.{quotient}
+use Rattle.shares.specs.Shares.{shareBy, shareOf, elapsed, totalAt, InRange}
 use Rattle.shares.specs.declared.Share.the-variants as share
-use Rattle.shares.specs.declared.Summarized.the-variants as summarized
 use lib.Ieee as Ieee
-use Rattle.shares.specs.Private.{leaderAt}
-
-pub converts-exactly : ConvertsExactly
-unfolding inFloat
-converts-exactly n h = unsigned-back binary64 64 n (le→leb n (2 ^ 53) (omega arith)) (omega arith) .1
 
 total-in : (ts : List Thread) (i : ℕ) → totalAt ts i ≤ totals ts
 total-in [] i = omega arith
@@ -56,120 +44,24 @@ times s i e =
 pub in-range : InRange
 in-range s i e = let t = times s i e in (t .total, omega arith)
 
--- the number below n or n itself
-below-or : (P : ℕ → Type 0) (n : ℕ) → ((i : ℕ) → i < n → P i) → P n → (i : ℕ) → i < suc n → P i
-below-or P n f p i h = go (ltb i n) refl
-  where
-    go : (x : Bool) → ltb i n ≡ x → P i
-    go true e = f i (ltb-true i n e)
-    go false e = let z : i ≡ n = omega (arith, ltb-false i n e) in rw z p
-
--- one more thread
-largest-next : (ts : List Thread) (n k : ℕ) → FirstLargest ts n k → FirstLargest ts (suc n) (cond (ltb (totalAt ts k) (totalAt ts n)) n k)
-largest-next ts n k p =
-    cond-elim (FirstLargest ts (suc n)) (ltb (totalAt ts k) (totalAt ts n)) n k
-    (λ e. let l = ltb-true (totalAt ts k) (totalAt ts n) e in (
-      omega arith,
-      below-or (λ (i : ℕ). totalAt ts i ≤ totalAt ts n) n (λ i h. omega (arith, p .1 i h)) (omega arith),
-      λ i h. omega (arith, p .1 i h),
-    ))
-    (λ e. let l = ltb-false (totalAt ts k) (totalAt ts n) e in (
-      omega (arith, p .0),
-      below-or (λ (i : ℕ). totalAt ts i ≤ totalAt ts k) n (p .1) l,
-      p .2,
-    ))
-
-smallest-next : (ts : List Thread) (n k : ℕ) → FirstSmallest ts n k → FirstSmallest ts (suc n) (cond (ltb (totalAt ts n) (totalAt ts k)) n k)
-smallest-next ts n k p =
-    cond-elim (FirstSmallest ts (suc n)) (ltb (totalAt ts n) (totalAt ts k)) n k
-    (λ e. let l = ltb-true (totalAt ts n) (totalAt ts k) e in (
-      omega arith,
-      below-or (λ (i : ℕ). totalAt ts n ≤ totalAt ts i) n (λ i h. omega (arith, p .1 i h)) (omega arith),
-      λ i h. omega (arith, p .1 i h),
-    ))
-    (λ e. let l = ltb-false (totalAt ts n) (totalAt ts k) e in (
-      omega (arith, p .0),
-      below-or (λ (i : ℕ). totalAt ts k ≤ totalAt ts i) n (p .1) l,
-      p .2,
-    ))
-
--- a thread alone
-alone : (P : ℕ → Type 0) → P 0 → (i : ℕ) → i < 1 → P i
-alone P p i h = let z : i ≡ 0 = omega arith in rw z p
-
-most-first : (ts : List Thread) (n : ℕ) → FirstLargest ts (suc n) (mostOf ts (suc n))
-unfolding mostOf
-most-first ts zero = cond-elim (FirstLargest ts 1) (ltb (totalAt ts 0) (totalAt ts 0)) 0 0 (λ e. one) (λ e. one)
-  where
-    one : FirstLargest ts 1 0
-    one = (omega arith, alone (λ (i : ℕ). totalAt ts i ≤ totalAt ts 0) (omega arith), λ i h. absurd (omega arith))
-most-first ts (suc n) = largest-next ts (suc n) (mostOf ts (suc n)) (most-first ts n)
-
-least-first : (ts : List Thread) (n : ℕ) → FirstSmallest ts (suc n) (leastOf ts (suc n))
-unfolding leastOf
-least-first ts zero = cond-elim (FirstSmallest ts 1) (ltb (totalAt ts 0) (totalAt ts 0)) 0 0 (λ e. one) (λ e. one)
-  where
-    one : FirstSmallest ts 1 0
-    one = (omega arith, alone (λ (i : ℕ). totalAt ts 0 ≤ totalAt ts i) (omega arith), λ i h. absurd (omega arith))
-least-first ts (suc n) = smallest-next ts (suc n) (leastOf ts (suc n)) (least-first ts n)
-
-pub summary-is-first : SummaryIsFirst
-summary-is-first ts zero h = absurd (omega arith)
-summary-is-first ts (suc n) h = (most-first ts n, least-first ts n)
-
--- the leaders after one more thread
-pub most-next : (ts : List Thread) (n : ℕ) → cond (ltb (totalAt ts (mostOf ts n)) (totalAt ts n)) (leaderAt ts n) (leaderAt ts (mostOf ts n)) ≡ leaderAt ts (mostOf ts (suc n))
-unfolding mostOf
-most-next ts n = go (ltb (totalAt ts (mostOf ts n)) (totalAt ts n))
-  where
-    go : (b : Bool) → cond b (leaderAt ts n) (leaderAt ts (mostOf ts n)) ≡ leaderAt ts (cond b n (mostOf ts n))
-    go true = refl
-    go false = refl
-
-pub least-next : (ts : List Thread) (n : ℕ) → cond (ltb (totalAt ts n) (totalAt ts (leastOf ts n))) (leaderAt ts n) (leaderAt ts (leastOf ts n)) ≡ leaderAt ts (leastOf ts (suc n))
-unfolding leastOf
-least-next ts n = go (ltb (totalAt ts n) (totalAt ts (leastOf ts n)))
-  where
-    go : (b : Bool) → cond b (leaderAt ts n) (leaderAt ts (leastOf ts n)) ≡ leaderAt ts (cond b n (leastOf ts n))
-    go true = refl
-    go false = refl
-
--- the cases of a share, and of a summary
+-- the cases of a share
 share-passed : (n : ℕ) (x : Ieee.Float) → (n ≡ 0 → ⊥) → shareBy 0 n x ≡ share.Of x
 share-passed zero x d = absurd (d refl)
 share-passed (suc n) x d = refl
 
-summary-passed : (n : ℕ) (x : Summary) → (n ≡ 0 → ⊥) → summarizedBy 0 n x ≡ summarized.Of x
-summary-passed zero x d = absurd (d refl)
-summary-passed (suc n) x d = refl
+module _ (s : State) (thread : ℕ) where
+  pub share-unsound : soundState s ≡ false → shareOf s thread ≡ share.Refused 9
+  unfolding shareOf firstRefusal
+  share-unsound e = rw e
 
-module _ (s : State) where
-  module _ (thread : ℕ) where
-    pub share-unsound : soundState s ≡ false → shareOf s thread ≡ share.Refused 9
-    unfolding shareOf firstRefusal
-    share-unsound e = rw e
+  pub share-wrong : soundState s ≡ true → s .header .n ≤ thread → shareOf s thread ≡ share.Refused 5
+  unfolding shareOf firstRefusal
+  share-wrong e h = rw (e, le-leb (s .header .n) thread h)
 
-    pub share-wrong : soundState s ≡ true → s .header .n ≤ thread → shareOf s thread ≡ share.Refused 5
-    unfolding shareOf firstRefusal
-    share-wrong e h = rw (e, le-leb (s .header .n) thread h)
+  pub share-none : soundState s ≡ true → thread < s .header .n → elapsed s ≡ 0 → shareOf s thread ≡ share.NoTime
+  unfolding shareOf firstRefusal
+  share-none e h z = rw (e, lt-leb (s .header .n) thread h, z)
 
-    pub share-none : soundState s ≡ true → thread < s .header .n → elapsed s ≡ 0 → shareOf s thread ≡ share.NoTime
-    unfolding shareOf firstRefusal
-    share-none e h z = rw (e, lt-leb (s .header .n) thread h, z)
-
-    pub share-is : soundState s ≡ true → thread < s .header .n → (elapsed s ≡ 0 → ⊥) → shareOf s thread ≡ share.Of (quotient (totalAt (s .threads) thread) (elapsed s))
-    unfolding shareOf firstRefusal
-    share-is e h d = rw (e, lt-leb (s .header .n) thread h) (share-passed (elapsed s) _ d)
-
-  pub summary-unsound : soundState s ≡ false → summarizedOf s ≡ summarized.Refused 9
-  unfolding summarizedOf firstRefusal
-  summary-unsound e = rw e
-
-  pub summary-none : soundState s ≡ true → elapsed s ≡ 0 → summarizedOf s ≡ summarized.NoTime
-  unfolding summarizedOf firstRefusal
-  summary-none e z = rw (e, z)
-
-  pub summary-is : soundState s ≡ true → (elapsed s ≡ 0 → ⊥)
-      → summarizedOf s ≡ summarized.Of (summaryOf (s .threads) (elapsed s) (mostOf (s .threads) (s .header .n)) (leastOf (s .threads) (s .header .n)))
-  unfolding summarizedOf firstRefusal
-  summary-is e d = rw e (summary-passed (elapsed s) _ d)
+  pub share-is : soundState s ≡ true → thread < s .header .n → (elapsed s ≡ 0 → ⊥) → shareOf s thread ≡ share.Of (quotient (totalAt (s .threads) thread) (elapsed s))
+  unfolding shareOf firstRefusal
+  share-is e h d = rw (e, lt-leb (s .header .n) thread h) (share-passed (elapsed s) _ d)

@@ -1,104 +1,16 @@
-// Shares of the elapsed time: of a thread that is asked for, and the largest and the smallest of all threads.
-//
-// Threads are compared by their totals, which are whole numbers: no float is compared.
+// A thread's share of the elapsed time.
 ghost use mathlib.Core.Path.{_≡_};
-ghost use mathlib.Core.Bool.{cond};
-ghost use Prim.Native.Nat.{_≤_};
-ghost use lib.Dec.{ltb};
-ghost use Rattle.records.specs.Ranges.{mostThreads, lastTime};
 ghost use Rattle.state.specs.Updates.{whole};
-ghost use Rattle.shares.specs.Shares.{quotient, shareOf, summarizedOf};
-ghost use Rattle.shares.specs.Private.{leadersOf};
-use records::THREADS;
+ghost use Rattle.shares.specs.Shares.{shareOf};
+use quotient::quotient;
 use rows::Slots;
 use state::Core;
-use thread::Thread;
 
 // A thread's share; none, where no time has passed; or the number by which it is refused.
 pub enum Share {
     Of(f64),
     NoTime,
     Refused(u8),
-}
-
-// The largest and the smallest share, and the thread of each.
-pub struct Summary {
-    pub largest: f64,
-    pub largest_thread: u8,
-    pub smallest: f64,
-    pub smallest_thread: u8,
-}
-
-// The summary; none, where no time has passed; or the number by which it is refused.
-pub enum Summarized {
-    Of(Summary),
-    NoTime,
-    Refused(u8),
-}
-
-// A thread and its total.
-struct Leader {
-    thread: u8,
-    total: u64,
-}
-
-// The first thread with the most run time, and the first with the least.
-struct Leaders {
-    most: Leader,
-    least: Leader,
-}
-
-// total / elapsed: each converted exactly, and one division.
-fn quotient(total: u64, elapsed: u64) -> f64
-    requires { ⌜ (total ≤ lastTime) × (elapsed ≤ lastTime) ⌝ }
-    ensures { λ r. ⌜ r ≡ quotient total elapsed ⌝ }
-{
-    (total as f64) / (elapsed as f64)
-}
-
-// The second where it has more run time, else the first.
-fn more(a: Leader, b: Leader) -> Leader
-    ensures { λ r. ⌜ r ≡ cond (ltb (a .total) (b .total)) b a ⌝ }
-{
-    if a.total < b.total {
-        return b;
-    }
-    a
-}
-
-// The second where it has less run time, else the first.
-fn less(a: Leader, b: Leader) -> Leader
-    ensures { λ r. ⌜ r ≡ cond (ltb (b .total) (a .total)) b a ⌝ }
-{
-    if b.total < a.total {
-        return b;
-    }
-    a
-}
-
-// Of the first n threads those with the most and the least run time.
-fn leading(threads: [Thread; THREADS], n: usize) -> Leaders
-    requires { ⌜ n ≤ mostThreads ⌝ }
-    ensures { λ r. ⌜ r ≡ leadersOf threads n ⌝ }
-{
-    let first = threads[0];
-    let mut most = Leader {
-        thread: 0,
-        total: first.total,
-    };
-    let mut least = most;
-    let mut i: usize = 0;
-    while i < n {
-        let t = threads[i];
-        let here = Leader {
-            thread: i as u8,
-            total: t.total,
-        };
-        most = more(most, here);
-        least = less(least, here);
-        i = i + 1;
-    }
-    Leaders { most, least }
 }
 
 // The share of a thread, for any state and any number.
@@ -121,28 +33,4 @@ pub fn share_of<'a>(c: Core, dues: &'a Slots, amounts: &'a Slots, thread: u8) ->
     let i = base::wide(thread);
     let t = c.threads[i];
     Share::Of(quotient(t.total, elapsed))
-}
-
-// The largest and the smallest share of the N threads, for any state.
-pub fn summary_of<'a>(c: Core, dues: &'a Slots, amounts: &'a Slots) -> Summarized
-    ensures { λ r. ⌜ r ≡ summarizedOf (whole c (now (dues .entry)) (now (amounts .entry))) ⌝ }
-{
-    rows::slots(dues);
-    rows::slots(amounts);
-    if !state_sound::sound(c, dues, amounts) {
-        return Summarized::Refused(base::NOT_SOUND);
-    }
-    let elapsed = c.now - c.header.start;
-    if elapsed == 0 {
-        return Summarized::NoTime;
-    }
-    let n = c.header.n as usize;
-    let threads = c.threads;
-    let l = leading(threads, n);
-    Summarized::Of(Summary {
-        largest: quotient(l.most.total, elapsed),
-        largest_thread: l.most.thread,
-        smallest: quotient(l.least.total, elapsed),
-        smallest_thread: l.least.thread,
-    })
 }

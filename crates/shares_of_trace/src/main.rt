@@ -20,7 +20,7 @@ fn end_of(file: &[u8]) -> u8
 // Writes the lines of a file.
 fn list(file: &[u8]) -> u8 {
     let mut out = [0u8; LARGEST];
-    let length = share_listing::share_listing(file, &mut out);
+    let length = share_listing::thawonlai_share_listing(file, &mut out);
     if !io::write_all(STDOUT_FILENO, &out[..length]) {
         os::fail(b"standard output");
         return command::FAILED;

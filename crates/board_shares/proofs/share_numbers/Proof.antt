@@ -1,7 +1,7 @@
 -- `board_shares::share_numbers` meets its contract.
 use mathlib.Core.Path.{ap, _∙_}
 use borrow.Author.Needs.{needs}
-use Rattle.share_replies.specs.Replies.{shareReply}
+use Rattle.board_shares.specs.Replies.{shareReply}
 use Rattle.board_shares.proofs.share_numbers.Statement.{statement}
 use Rattle.board_shares.proofs.share_numbers.Tie as tie
 

@@ -1,7 +1,7 @@
 -- `board_shares::summary_numbers` meets its contract.
 use mathlib.Core.Path.{ap, _∙_}
 use borrow.Author.Needs.{needs}
-use Rattle.share_replies.specs.Replies.{summaryReply}
+use Rattle.board_shares.specs.Replies.{summaryReply}
 use Rattle.board_shares.proofs.summary_numbers.Statement.{statement}
 use Rattle.board_shares.proofs.summary_numbers.Tie as tie
 

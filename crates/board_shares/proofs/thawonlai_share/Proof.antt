@@ -41,10 +41,10 @@ use Rattle.state.specs.Updates.{whole as stateOf}
 use Rattle.state.proofs.Core as T
 use Rattle.state.proofs.Core.Laws as T′
 use Rattle.shares.specs.Shares.{shareOf}
-use Rattle.share_replies.specs.Replies.{shareReply}
-use Rattle.share_replies.specs.declared.ShareReply.{ShareReply}
-use Rattle.share_replies.proofs.ShareReply as R
-use Rattle.share_replies.proofs.ShareReply.Laws as R′
+use Rattle.board_shares.specs.Replies.{shareReply}
+use Rattle.board_shares.specs.declared.ShareReply.{ShareReply}
+use Rattle.board_shares.proofs.ShareReply as R
+use Rattle.board_shares.proofs.ShareReply.Laws as R′
 use Rattle.board_shares.proofs.share_numbers as callee
 use Rattle.board_shares.proofs.share_numbers.Symbol as callee-def
 use Rattle.board_shares.proofs.share_numbers.Symbol.{name as #board-shares·share-numbers}

@@ -40,11 +40,11 @@ use Rattle.state.specs.declared.Core.{Core}
 use Rattle.state.specs.Updates.{whole as stateOf}
 use Rattle.state.proofs.Core as T
 use Rattle.state.proofs.Core.Laws as T′
-use Rattle.shares.specs.Shares.{summarizedOf}
-use Rattle.share_replies.specs.Replies.{summaryReply}
-use Rattle.share_replies.specs.declared.SummaryReply.{SummaryReply}
-use Rattle.share_replies.proofs.SummaryReply as R
-use Rattle.share_replies.proofs.SummaryReply.Laws as R′
+use Rattle.share_summary.specs.Summaries.{summarizedOf}
+use Rattle.board_shares.specs.Replies.{summaryReply}
+use Rattle.board_shares.specs.declared.SummaryReply.{SummaryReply}
+use Rattle.board_shares.proofs.SummaryReply as R
+use Rattle.board_shares.proofs.SummaryReply.Laws as R′
 use Rattle.board_shares.proofs.summary_numbers as callee
 use Rattle.board_shares.proofs.summary_numbers.Symbol as callee-def
 use Rattle.board_shares.proofs.summary_numbers.Symbol.{name as #board-shares·summary-numbers}

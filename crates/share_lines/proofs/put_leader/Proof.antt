@@ -3,7 +3,7 @@ use native.Mathlib.Omega.{arith}
 use Rattle.text.specs.Fields.{space}
 use Rattle.text.proofs.PlacedLaws.{after}
 use Rattle.share_lines.specs.Lines.{leaderLine}
-use Rattle.share_lines.proofs.LineLaws.{byte-most}
+use Rattle.text.proofs.FieldLaws.{byte-length}
 use borrow.Author.Needs.{needs}
 use Rattle.share_lines.proofs.put_leader.Statement.{statement}
 use Rattle.share_lines.proofs.put_leader.Tie as tie
@@ -20,14 +20,14 @@ put-field-requires : tie.Need-put-field-requires
 put-field-requires c κs =
     let w = c .before .before .before .put-word in
     let s = c .before .before .before .before .before .before .before in
-    omega (arith, s .pre .1, s .pre .2, w .ensures .next, w .kept .0, byte-most space (s .fits .thread))
+    omega (arith, s .pre .1, s .pre .2, w .ensures .next, w .kept .0, byte-length space (s .fits .thread))
 
 put-end-requires : tie.Need-put-end-requires
 put-end-requires c κs =
     let f = c .before .before .before .put-field in
     let w = c .before .before .before .before .before .before .before .put-word in
     let s = c .before .before .before .before .before .before .before .before .before .before .before in
-    (s .pre .0, omega (arith, s .pre .1, s .pre .2, f .ensures .next, f .kept .0, w .ensures .next, w .kept .0, byte-most space (s .fits .thread)))
+    (s .pre .0, omega (arith, s .pre .1, s .pre .2, f .ensures .next, f .kept .0, w .ensures .next, w .kept .0, byte-length space (s .fits .thread)))
 
 same-length : tie.Need-same-length
 same-length c = search needs
@@ -39,7 +39,7 @@ returns c =
     let f = c .before .before .before .before .before .before .put-field in
     let w = c .before .before .before .before .before .before .before .before .before .before .put-word in
     let s = c .before .before .before .before .before .before .before .before .before .before .before .before .before .before in
-    let l = byte-most space (s .fits .thread) in (
+    let l = byte-length space (s .fits .thread) in (
       after (omega (arith, s .pre .1, s .pre .2, f .ensures .next, w .ensures .next)) (after (omega (arith, s .pre .1, s .pre .2, w .ensures .next)) (w .ensures) (f .ensures)) (e .ensures .0),
       omega (arith, e .ensures .1, s .pre .1, f .ensures .next, w .ensures .next),
     )

@@ -5,7 +5,8 @@ use lib.ListN.{length}
 use Rattle.text.specs.Fields.{field, space}
 use Rattle.text.proofs.PlacedLaws.{room-b, room-c, room-d, all-four}
 use Rattle.share_lines.specs.Lines.{shareWord}
-use Rattle.share_lines.proofs.LineLaws.{numbers-most, within, ended}
+use Rattle.text.proofs.FieldLaws.{within, ended}
+use Rattle.share_lines.proofs.LineLaws.{numbers-most}
 use borrow.Author.Needs.{needs}
 use Rattle.share_lines.proofs.put_numbers.Statement.{statement}
 use Rattle.share_lines.proofs.put_numbers.Tie as tie

@@ -11,7 +11,7 @@ use Rattle.share_lines.proofs.put_shares.Reads as reads
 use Rattle.share_lines.proofs.put_shares.Lts as lts
 use Rattle.share_lines.proofs.put_summary.Reads as put-summary-reads
 use Rattle.share_lines.proofs.put_threads.Reads as put-threads-reads
-use Rattle.shares.proofs.summary_of.Reads as summary-of-reads
+use Rattle.share_summary.proofs.summary_of.Reads as summary-of-reads
 
 -- the state that is given
 abbrev stateGiven : tie.Start → State

@@ -9,7 +9,8 @@ use Rattle.state.specs.declared.State.{State}
 use Rattle.state.specs.Sound.{soundState}
 use Rattle.state.specs.Updates.{whole}
 use Rattle.shares.specs.declared.Share.the-variants as share
-use Rattle.shares.specs.Shares.{quotient, elapsed, totalAt}
+use Rattle.quotient.specs.Quotient.{quotient}
+use Rattle.shares.specs.Shares.{elapsed, totalAt}
 use Rattle.shares.proofs.ShareLaws.{times, share-unsound, share-wrong, share-none, share-is}
 use Rattle.shares.proofs.share_of.Statement.{statement}
 use Rattle.shares.proofs.share_of.Tie as tie

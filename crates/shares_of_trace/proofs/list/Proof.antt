@@ -4,14 +4,14 @@ use borrow.Author.Needs.{needs}
 use Rattle.shares_of_trace.proofs.list.Statement.{statement}
 use Rattle.shares_of_trace.proofs.list.Tie as tie
 
-share-listing-requires : tie.Need-share-listing-requires
-share-listing-requires c κs = search needs
+thawonlai-share-listing-requires : tie.Need-thawonlai-share-listing-requires
+thawonlai-share-listing-requires c κs = search needs
 
 array-share-prefix-out : tie.Need-array-share-prefix-out
-array-share-prefix-out c = let p = c .share-listing in listed-part 4096 _ _ _ (p .ensures .0) (p .ensures .1) .0
+array-share-prefix-out c = let p = c .thawonlai-share-listing in listed-part 4096 _ _ _ (p .ensures .0) (p .ensures .1) .0
 
 slice-aggregate-write-all : tie.Need-slice-aggregate-write-all
-slice-aggregate-write-all c = let p = c .before .share-listing in listed-part 4096 _ _ _ (p .ensures .0) (p .ensures .1) .1
+slice-aggregate-write-all c = let p = c .before .thawonlai-share-listing in listed-part 4096 _ _ _ (p .ensures .0) (p .ensures .1) .1
 
 write-all-requires : tie.Need-write-all-requires
 write-all-requires c κs = search needs
@@ -35,7 +35,7 @@ pub list-spec : {M : Type 1} → statement M
 list-spec =
     tie.close
     (tie.spec
-    share-listing-requires
+    thawonlai-share-listing-requires
     array-share-prefix-out
     slice-aggregate-write-all
     write-all-requires

@@ -1,0 +1,2 @@
+-- What a reader of `board_shares` must believe.
+pub mod Replies

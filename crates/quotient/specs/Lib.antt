@@ -1,0 +1,2 @@
+-- What a reader of `quotient` must believe.
+pub mod Quotient

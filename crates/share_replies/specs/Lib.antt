@@ -1,2 +1,0 @@
--- What a reader of `share_replies` must believe.
-pub mod Replies

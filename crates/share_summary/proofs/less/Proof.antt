@@ -1,0 +1,15 @@
+-- `share_summary::less` meets its contract.
+use borrow.Author.Tests.{lt-ltb, le-ltb}
+use Rattle.share_summary.proofs.less.Statement.{statement}
+use Rattle.share_summary.proofs.less.Tie as tie
+use Rattle.share_summary.proofs.less.Reads as reads
+use Rattle.share_summary.proofs.less.Lts as lts
+
+returns : tie.Need-returns
+returns c = rw (lt-ltb _ _ (c .if1 .taken))
+
+returns-2 : tie.Need-returns-2
+returns-2 c = rw (le-ltb _ _ (c .if1 .left))
+
+pub less-spec : {M : Type 1} → statement M
+less-spec = tie.close (tie.spec returns returns-2)
