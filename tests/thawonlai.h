@@ -1,5 +1,5 @@
-/* What the static libraries export, for C: the functions of crates/board, board_bound, board_counter, board_search, board_shares, board_trace,
-   board_replay, board_text, board_check and share_listing, and the structs that they name. A slice is a pointer and then a length. */
+/* What the static libraries export, for C: the functions of crates/board, board_opening, board_bound, board_counter, board_search, board_shares,
+   board_trace, board_listing, board_replay, board_text, board_check and share_listing, and the structs that they name. A slice is a pointer and then a length. */
 #ifndef THAWONLAI_H
 #define THAWONLAI_H
 #include <stddef.h>

@@ -7,12 +7,14 @@ fn main() {
     println!("cargo:rustc-link-search=native={}", folder.display());
     for name in [
         "board",
+        "board_opening",
         "board_counter",
         "board_search",
         "board_bound",
         "board_shares",
         "share_listing",
         "board_trace",
+        "board_listing",
         "board_replay",
         "board_text",
         "board_check",

@@ -1,32 +1,19 @@
-// The executive for programs in other languages: a static library's exported functions.
+// The executive for programs in other languages: a static library's exported function.
 //
-// A struct is laid out as C lays it out, a lent `Core` is a pointer to one, and a lent array is a pointer to its first number. None has
-// a `requires`: any values may be handed in, and bad ones get their status.
+// A struct is laid out as C lays it out, a lent `Core` is a pointer to one, and a lent array is a pointer to its first number. It has no
+// `requires`: any values may be handed in, and bad ones get their status.
 ghost use mathlib.Core.Path.{_≡_};
-ghost use mathlib.Core.Bool.{cond};
 ghost use Rattle.passing.specs.Sequence.{answer};
-ghost use Rattle.state.specs.Sound.{soundState};
 ghost use Rattle.state.specs.Updates.{whole};
 ghost use Rattle.events.specs.Answers.{executive};
-ghost use Rattle.events.specs.Opening.{opening};
 ghost use Rattle.events.specs.Reports.{eventNumbers};
-ghost use Rattle.answers.specs.Answer.{answerOf, replied, done};
-use answers::Answer;
+ghost use Rattle.answers.specs.Answer.{replied, done};
 use answers::Done;
 use answers::Reply;
 use records::Event;
-use records::Header;
-use records::Parameters;
-use records::THREADS;
 use reports::NUMBERS;
 use rows::Slots;
 use state::Core;
-
-// A thread table: an array on its own is not passed by value in C.
-#[repr(C)]
-pub struct Table {
-    pub threads: [Parameters; THREADS],
-}
 
 // An event for a core by value.
 fn event_done(
@@ -66,39 +53,4 @@ pub extern "C" fn thawonlai_event(
     let d = event_done(*core, dues, amounts, told, e);
     *core = d.core;
     d.reply
-}
-
-// Opens a state: the first N threads of the table, at the start time. The slots are lent, and left as the answer's state has them.
-#[no_mangle]
-pub extern "C" fn thawonlai_open(
-    header: Header,
-    table: Table,
-    dues: &mut Slots,
-    amounts: &mut Slots,
-) -> Answer
-    ensures { λ r. ⌜ answerOf r (now (dues .exit)) (now (amounts .exit)) ≡ opening header (table .threads) ⌝ }
-{
-    let threads = table.threads;
-    opening::open(header, threads, dues, amounts)
-}
-
-// 1 where a core by value is a sound state with its slots, else 0.
-fn sound_number<'a>(c: Core, dues: &'a Slots, amounts: &'a Slots) -> u8
-    ensures { λ r. ⌜ r ≡ cond (soundState (whole c (now (dues .entry)) (now (amounts .entry)))) 1 0 ⌝ }
-{
-    // lent as slices, so that their lengths are known
-    rows::slots(dues);
-    rows::slots(amounts);
-    if state_sound::sound(c, dues, amounts) {
-        return 1;
-    }
-    0
-}
-
-// 1 where a lent state is sound, else 0.
-#[no_mangle]
-pub extern "C" fn thawonlai_sound<'c, 'a>(core: &'c Core, dues: &'a Slots, amounts: &'a Slots) -> u8
-    ensures { λ r. ⌜ r ≡ cond (soundState (whole (now (core .entry)) (now (dues .entry)) (now (amounts .entry)))) 1 0 ⌝ }
-{
-    sound_number(*core, dues, amounts)
 }

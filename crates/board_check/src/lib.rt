@@ -12,6 +12,6 @@ use listing_check::Checked;
 pub extern "C" fn thawonlai_check(file: &[u8], theirs: &[u8]) -> Checked
     ensures { λ r. ⌜ r ≡ checkedOf (verdictOf (now (file .entry)) (now (theirs .entry))) ⌝ }
 {
-    let v = listing_check::verdict_of(file, theirs);
+    let v = listing_verdict::verdict_of(file, theirs);
     listing_check::checked_of(v)
 }

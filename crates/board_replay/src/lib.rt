@@ -58,7 +58,7 @@ pub extern "C" fn thawonlai_replay(
 ) -> Answer
     ensures { λ r. ⌜ answerOf r (now (dues .exit)) (now (amounts .exit)) ≡ replayOf (now (file .entry)) count ⌝ }
 {
-    let begun = replay_steps::begin(file, dues, amounts);
+    let begun = replay_begin::begin(file, dues, amounts);
     let answer = begun.answer;
     if begun.status != 0 {
         let core = answer.core;

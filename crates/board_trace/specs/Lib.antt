@@ -1,2 +1,2 @@
--- What a reader of `board_trace` must believe, over the definitions of `trace` and `listing`.
+-- What a reader of `board_trace` must believe, over the definitions of `trace`.
 pub mod Found

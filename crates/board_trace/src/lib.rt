@@ -3,12 +3,9 @@
 // A struct is laid out as C lays it out, and a slice is a pointer and then a length.
 // None has a `requires`: any values may be handed in, and bad ones get their status.
 ghost use mathlib.Core.Path.{_≡_};
-ghost use Prim.Native.Nat.{_≤_};
 ghost use lib.ListN.{length};
 ghost use Rattle.trace.specs.Write.{writtenOf, outOf, copiedOf, copyOf};
-ghost use Rattle.listing.specs.Listing.{listedOf, bufferOf, largest};
 ghost use Rattle.board_trace.specs.Found.{foundIn};
-use listing::Listed;
 use records::Event;
 use records::Header;
 use records::Parameters;
@@ -50,7 +47,7 @@ pub extern "C" fn thawonlai_write(
 {
     let threads = table.threads;
     let all = events.events;
-    trace::write(header, threads, count, all, out)
+    trace_write::write(header, threads, count, all, out)
 }
 
 // Reads a trace file: its header and the number of its events.
@@ -58,7 +55,7 @@ pub extern "C" fn thawonlai_write(
 pub extern "C" fn thawonlai_read(file: &[u8]) -> Found
     ensures { λ r. ⌜ r ≡ foundIn (now (file .entry)) ⌝ }
 {
-    let c = trace_contents::read(file);
+    let c = trace_read::read(file);
     let header = c.header;
     Found {
         status: c.status,
@@ -74,15 +71,5 @@ pub extern "C" fn thawonlai_copy(file: &[u8], out: &mut [u8]) -> Written
     ensures { λ r. ⌜ r ≡ copiedOf (now (file .entry)) (length (now (out .entry))) ⌝ }
     ensures { λ _. ⌜ now (out .exit) ≡ copyOf (now (file .entry)) (now (out .entry)) ⌝ }
 {
-    trace::copy(file, out)
-}
-
-// Writes the listing of a trace file into a buffer; where it is too short for it, no byte is changed.
-#[no_mangle]
-pub extern "C" fn thawonlai_listing(file: &[u8], out: &mut [u8]) -> Listed
-    ensures { λ r. ⌜ r ≡ listedOf (now (file .entry)) (length (now (out .entry))) ⌝ }
-    ensures { λ _. ⌜ now (out .exit) ≡ bufferOf (now (file .entry)) (now (out .entry)) ⌝ }
-    ensures { λ r. ⌜ (largest ≤ length (now (out .entry)) → r .status ≡ 0) ⌝ }
-{
-    listing::listing(file, out)
+    trace_copy::copy(file, out)
 }

@@ -8,8 +8,8 @@ ghost use Rattle.listing.specs.Lines.{threadWord, refusedLine};
 ghost use Rattle.bound_listing.specs.BoundListing.{boundLine, boundLines, boundListing, lineMost, largest};
 use records::Parameters;
 use records::THREADS;
-use text::put_field;
 use text::put_word;
+use text_fields::put_field;
 
 // So many bytes are enough for every file.
 pub const LARGEST: usize = 70 * THREADS;
@@ -55,26 +55,17 @@ fn put_lines(out: &mut [u8], table: [Parameters; THREADS], ticks: u64) -> usize
     here
 }
 
-// The only line of a file that is refused.
-fn put_refusal(out: &mut [u8], status: u8) -> usize
-    requires { ⌜ largest ≤ length (now out) ⌝ }
-    ensures { λ r. ⌜ Put (now (out .entry)) 0 (refusedLine status) (now (out .exit)) r ⌝ }
-    ensures { λ r. ⌜ r ≤ largest ⌝ }
-{
-    text::put_labelled(out, 0, b"refused ", status as u64)
-}
-
 // All lines of a file, or that of its refusal, from the buffer's start on.
 fn put_listing(out: &mut [u8], file: &[u8], ticks: u64) -> usize
     requires { ⌜ largest ≤ length (now out) ⌝ }
     ensures { λ r. ⌜ Put (now (out .entry)) 0 (boundListing (now (file .entry)) ticks) (now (out .exit)) r ⌝ }
     ensures { λ r. ⌜ r ≤ largest ⌝ }
 {
-    let status = replay_steps::begin_status(file);
+    let status = replay_begin::begin_status(file);
     if status != 0 {
-        return put_refusal(out, status);
+        return refusal_line::put_refusal(out, status);
     }
-    let contents = trace_contents::read(file);
+    let contents = trace_read::read(file);
     let table = contents.table;
     put_lines(out, table, ticks)
 }

@@ -46,7 +46,7 @@ fn show_both(file: &[u8], theirs: &[u8], line: usize) {
 fn judge(file: &[u8], theirs: &[u8]) -> u8
     ensures { λ r. ⌜ ((r ≡ 2 → ⊥) → r ≡ checkedOf (verdictOf (now (file .entry)) (now (theirs .entry))) .verdict) ⌝ }
 {
-    let v = listing_check::verdict_of(file, theirs);
+    let v = listing_verdict::verdict_of(file, theirs);
     if !say_verdict(v) {
         os::fail(b"standard output");
         return command::FAILED;

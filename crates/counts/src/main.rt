@@ -36,7 +36,7 @@ fn refuse(out: &mut [u8], status: u8) -> u8
     requires { ⌜ room ≤ length (now out) ⌝ }
     ensures { λ r. ⌜ ((r ≡ 2 → ⊥) → r ≡ 1) ⌝ }
 {
-    let n = counts_steps::put_refused(out, status);
+    let n = refusal_line::put_refusal(out, status);
     if !write(out, n) {
         return command::FAILED;
     }
@@ -112,7 +112,7 @@ fn count(file: &[u8]) -> u8
     let mut out = [0u8; ROOM];
     let mut dues = [0u64; SLOTS];
     let mut amounts = [0u64; SLOTS];
-    let begun = replay_steps::begin(file, &mut dues, &mut amounts);
+    let begun = replay_begin::begin(file, &mut dues, &mut amounts);
     let status = begun.status;
     if status != 0 {
         return refuse(&mut out, status);

@@ -8,7 +8,6 @@ ghost use Rattle.state.specs.Sound.{soundState};
 ghost use Rattle.state.specs.Updates.{whole};
 ghost use Rattle.text.specs.Placed.{Put};
 ghost use Rattle.replay_steps.specs.FileSteps.{toldAt};
-ghost use Rattle.listing.specs.Lines.{refusedLine};
 ghost use Rattle.counts_text.specs.Room.{room};
 ghost use Rattle.counts_text.specs.Sums.{added};
 ghost use Rattle.counts_steps.specs.CountSteps.{textAt, countedWith, countedAt, SumsOf};
@@ -46,7 +45,7 @@ pub fn count_at(
     let n = c.header.n as usize;
     let mut told = [0u64; NUMBERS];
     let step = replay_steps::step_at(c, dues, amounts, &mut told, file, offset);
-    counts_text::add(sums, &told);
+    counts_add::add(sums, &told);
     let core = step.answer.core;
     if !step.more {
         return Counted {
@@ -56,20 +55,11 @@ pub fn count_at(
             core,
         };
     }
-    let length = counts_text::put_event(out, i as u64, step.answer.status, n, &told);
+    let length = counts_event::put_event(out, i as u64, step.answer.status, n, &told);
     Counted {
         more: true,
         offset: step.offset,
         length,
         core,
     }
-}
-
-// The line of a refusal, from the buffer's start on.
-pub fn put_refused(out: &mut [u8], status: u8) -> usize
-    requires { ⌜ room ≤ length (now out) ⌝ }
-    ensures { λ r. ⌜ Put (now (out .entry)) 0 (refusedLine status) (now (out .exit)) r ⌝ }
-    ensures { λ r. ⌜ r ≤ room ⌝ }
-{
-    text::put_labelled(out, 0, b"refused ", status as u64)
 }

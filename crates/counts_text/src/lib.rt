@@ -1,35 +1,57 @@
-// What happened at the events of a trace, as lines in a lent buffer, and their sums.
-ghost use mathlib.Core.Path.{_≡_};
-ghost use Prim.Native.Nat.{_<_, _≤_};
+// What happened to a thread as a line in a lent buffer, and the lines of the sums. Each function answers the offset after what it put.
+ghost use Prim.Native.Nat.{_+_, _<_, _≤_};
 ghost use lib.ListN.{length};
 ghost use Rattle.records.specs.Ranges.{mostThreads};
-ghost use Rattle.trace_records.specs.Layout.{mostEvents};
 ghost use Rattle.text.specs.Placed.{Put};
-ghost use Rattle.counts_text.specs.Lines.{eventText, sumsText};
-ghost use Rattle.counts_text.specs.Room.{room};
-ghost use Rattle.counts_text.specs.Sums.{added, Addable};
-
-mod lines; // lines.rt: one line of each kind
-
+ghost use Rattle.counts_text.specs.Lines.{countWord, fourLine, threadLine, sumsText};
+ghost use Rattle.counts_text.specs.Room.{threadLineMost, room};
 use records::THREADS;
 use reports::NUMBERS;
+use reports::PER_THREAD;
+use text::put_word;
+use text_fields::put_field;
+use text_fields::put_row;
 
 // A buffer of so many bytes is long enough for the lines of an event, and for the sums.
 pub const ROOM: usize = 15 + 93 * THREADS;
 
-// The lines of event i from the buffer's start on, given its status, how many threads there are, and its numbers.
-pub fn put_event(out: &mut [u8], i: u64, status: u8, n: usize, told: &[u64; NUMBERS]) -> usize
-    requires { ⌜ (i < mostEvents) × (n ≤ mostThreads) × (room ≤ length (now out)) ⌝ }
-    ensures { λ r. ⌜ Put (now (out .entry)) 0 (eventText i status n (now (told .entry))) (now (out .exit)) r ⌝ }
-    ensures { λ r. ⌜ r ≤ room ⌝ }
+// A word, the number of a thread and its four numbers.
+fn put_four(
+    out: &mut [u8],
+    at: usize,
+    word: &[u8],
+    i: u64,
+    limits: u64,
+    quanta: u64,
+    replenishments: u64,
+    amounts: u64,
+) -> usize
+    requires { ⌜ (i < mostThreads) × (length (now word) ≤ length countWord) × (at + threadLineMost ≤ length (now out)) ⌝ }
+    ensures { λ r. ⌜ Put (now (out .entry)) at (fourLine (now (word .entry)) i limits quanta replenishments amounts) (now (out .exit)) r ⌝ }
+    ensures { λ r. ⌜ r ≤ at + threadLineMost ⌝ }
 {
-    let mut here = lines::put_event_line(out, i, status);
-    let mut t = 0;
-    while t < n {
-        here = lines::put_count(out, here, t, told);
-        t += 1;
-    }
-    here
+    let here = put_word(out, at, word);
+    let there = put_field(out, here, i, b' ');
+    put_row(out, there, limits, quanta, replenishments, amounts)
+}
+
+// The line of thread i.
+pub fn put_thread(out: &mut [u8], at: usize, word: &[u8], i: usize, xs: &[u64; NUMBERS]) -> usize
+    requires { ⌜ (i < mostThreads) × (length (now word) ≤ length countWord) × (at + threadLineMost ≤ length (now out)) ⌝ }
+    ensures { λ r. ⌜ Put (now (out .entry)) at (threadLine (now (word .entry)) (now (xs .entry)) i) (now (out .exit)) r ⌝ }
+    ensures { λ r. ⌜ r ≤ at + threadLineMost ⌝ }
+{
+    let k = i * PER_THREAD;
+    put_four(
+        out,
+        at,
+        word,
+        i as u64,
+        xs[k],
+        xs[k + 1],
+        xs[k + 2],
+        xs[k + 3],
+    )
 }
 
 // The sums of each of n threads from the buffer's start on.
@@ -41,21 +63,8 @@ pub fn put_sums(out: &mut [u8], n: usize, sums: &[u64; NUMBERS]) -> usize
     let mut here = 0;
     let mut t = 0;
     while t < n {
-        here = lines::put_thread(out, here, b"sum ", t, sums);
+        here = put_thread(out, here, b"sum ", t, sums);
         t += 1;
     }
     here
-}
-
-// Adds the numbers of an event to the sums.
-pub fn add(sums: &mut [u64; NUMBERS], told: &[u64; NUMBERS])
-    requires { ⌜ Addable (now sums) (now told) ⌝ }
-    ensures { λ _. ⌜ now (sums .exit) ≡ added (now (sums .entry)) (now (told .entry)) ⌝ }
-{
-    let mut k = 0;
-    while k < NUMBERS {
-        let x = sums[k];
-        sums[k] = x + told[k];
-        k += 1;
-    }
 }

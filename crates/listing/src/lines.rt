@@ -8,8 +8,8 @@ ghost use Rattle.text.specs.Fields.{labelled};
 ghost use Rattle.listing.specs.Lines.{headerLine, eventLine, threadLine};
 ghost use Rattle.text.specs.Widths.{longField};
 ghost use Rattle.listing.specs.Private.{eventLineMost, threadLineMost};
-use text::put_row;
 use text::put_word;
+use text_fields::put_row;
 
 // The line of event i: its status, the running thread, the next moment.
 pub(super) fn put_event(
@@ -50,7 +50,7 @@ pub(super) fn put_labelled(out: &mut [u8], at: usize, word: &[u8], n: u64) -> us
     ensures { λ r. ⌜ Put (now (out .entry)) at (labelled (now (word .entry)) n) (now (out .exit)) r ⌝ }
     ensures { λ r. ⌜ r ≤ at + (length (now (word .entry)) + longField) ⌝ }
 {
-    text::put_labelled(out, at, word, n)
+    text_fields::put_labelled(out, at, word, n)
 }
 
 // The first line: what the columns of the events are.

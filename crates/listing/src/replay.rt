@@ -92,7 +92,7 @@ pub(super) fn put_listing(out: &mut [u8], file: &[u8]) -> usize
 {
     let mut dues = [0u64; SLOTS];
     let mut amounts = [0u64; SLOTS];
-    let begun = replay_steps::begin(file, &mut dues, &mut amounts);
+    let begun = replay_begin::begin(file, &mut dues, &mut amounts);
     let status = begun.status;
     if status != 0 {
         return lines::put_labelled(out, 0, b"refused ", status as u64);

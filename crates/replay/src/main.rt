@@ -1,20 +1,6 @@
 // Writes the listing of a trace, and says how it ended: done, refused where the listing is the line of a refusal, or failed where the
 // trace can't be read or the listing can't be written.
-ghost use mathlib.Core.Path.{_≡_};
-ghost use mathlib.Core.Bool.{cond};
-ghost use lib.Dec.{eqb};
-ghost use Rattle.replay_steps.specs.FileSteps.{begunOf};
 use libc::STDOUT_FILENO;
-
-// How the replay of a file ends: refused where the reader or the opening refuses it, and so its listing is that line (01 Replay 8).
-fn end_of(file: &[u8]) -> u8
-    ensures { λ r. ⌜ r ≡ cond (eqb (begunOf (now (file .entry)) .status) 0) 0 1 ⌝ }
-{
-    if replay_steps::begin_status(file) == 0 {
-        return command::DONE;
-    }
-    command::REFUSED
-}
 
 // Writes the listing of a file.
 fn list(file: &[u8]) -> u8 {
@@ -25,7 +11,7 @@ fn list(file: &[u8]) -> u8 {
         os::fail(b"standard output");
         return command::FAILED;
     }
-    end_of(file)
+    replay_end::end_of(file)
 }
 
 // A trace has at most 60,800 bytes: of a longer file the first 65,536 are refused as the whole of it is.

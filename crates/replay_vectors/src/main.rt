@@ -35,7 +35,7 @@ fn rewritten(name: &[u8]) {
     let mut file = io::large_buffer();
     let mut out = io::large_buffer();
     let n = stored(name, &mut file);
-    let w = trace::copy(&file[..n], &mut out);
+    let w = trace_copy::copy(&file[..n], &mut out);
     line(name, wide(w.status));
     let cleared = io::large_buffer();
     if w.status == 0 {

@@ -35,8 +35,8 @@ use share_summary::Summary;
 use shares::Share;
 use state::Core;
 use text::put_byte;
-use text::put_field;
 use text::put_word;
+use text_fields::put_field;
 
 // A share, or that there is none.
 fn put_share(out: &mut [u8], at: usize, x: Share) -> usize

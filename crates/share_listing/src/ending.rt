@@ -8,7 +8,6 @@ ghost use Rattle.state.specs.Sound.{soundState};
 ghost use Rattle.state.specs.Updates.{whole};
 ghost use Rattle.text.specs.Placed.{Put};
 ghost use Rattle.replay_steps.specs.FileSteps.{endFrom};
-ghost use Rattle.listing.specs.Lines.{refusedLine};
 ghost use Rattle.share_listing.specs.ShareListing.{shareListing, largest};
 use reports::NUMBERS;
 use rows::SLOTS;
@@ -39,15 +38,6 @@ fn last_core(opened: Core, dues: &mut Slots, amounts: &mut Slots, file: &[u8], f
     s
 }
 
-// The only line of a file that is refused.
-fn put_refusal(out: &mut [u8], status: u8) -> usize
-    requires { ⌜ largest ≤ length (now out) ⌝ }
-    ensures { λ r. ⌜ Put (now (out .entry)) 0 (refusedLine status) (now (out .exit)) r ⌝ }
-    ensures { λ r. ⌜ r ≤ largest ⌝ }
-{
-    text::put_labelled(out, 0, b"refused ", status as u64)
-}
-
 // All lines of a file, or that of its refusal, from the buffer's start on.
 pub(super) fn put_listing(out: &mut [u8], file: &[u8]) -> usize
     requires { ⌜ largest ≤ length (now out) ⌝ }
@@ -56,10 +46,10 @@ pub(super) fn put_listing(out: &mut [u8], file: &[u8]) -> usize
 {
     let mut dues = [0u64; SLOTS];
     let mut amounts = [0u64; SLOTS];
-    let begun = replay_steps::begin(file, &mut dues, &mut amounts);
+    let begun = replay_begin::begin(file, &mut dues, &mut amounts);
     let status = begun.status;
     if status != 0 {
-        return put_refusal(out, status);
+        return refusal_line::put_refusal(out, status);
     }
     let a = begun.answer;
     let opened = a.core;

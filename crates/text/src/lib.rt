@@ -3,7 +3,6 @@ ghost use mathlib.Core.List.{[], _∷_};
 ghost use Prim.Native.Nat.{_+_, _<_, _≤_};
 ghost use lib.ListN.{length};
 ghost use Rattle.text.specs.Decimal.{decimal};
-ghost use Rattle.text.specs.Fields.{field, labelled, row};
 ghost use Rattle.text.specs.Placed.{Put};
 
 // One byte.
@@ -39,33 +38,4 @@ pub fn put_number(out: &mut [u8], at: usize, n: u64) -> usize
     }
     let here = put_number(out, at, n / 10);
     put_byte(out, here, b'0' + (n % 10) as u8)
-}
-
-// A number and the byte after it.
-pub fn put_field(out: &mut [u8], at: usize, n: u64, end: u8) -> usize
-    requires { ⌜ at + length (field n end) ≤ length (now out) ⌝ }
-    ensures { λ r. ⌜ Put (now (out .entry)) at (field n end) (now (out .exit)) r ⌝ }
-{
-    let here = put_number(out, at, n);
-    put_byte(out, here, end)
-}
-
-// A line of a word and a number.
-pub fn put_labelled(out: &mut [u8], at: usize, word: &[u8], n: u64) -> usize
-    requires { ⌜ at + length (labelled (now word) n) ≤ length (now out) ⌝ }
-    ensures { λ r. ⌜ Put (now (out .entry)) at (labelled (now (word .entry)) n) (now (out .exit)) r ⌝ }
-{
-    let here = put_word(out, at, word);
-    put_field(out, here, n, b'\n')
-}
-
-// A line of four numbers.
-pub fn put_row(out: &mut [u8], at: usize, a: u64, b: u64, c: u64, d: u64) -> usize
-    requires { ⌜ at + length (row a b c d) ≤ length (now out) ⌝ }
-    ensures { λ r. ⌜ Put (now (out .entry)) at (row a b c d) (now (out .exit)) r ⌝ }
-{
-    let second = put_field(out, at, a, b' ');
-    let third = put_field(out, second, b, b' ');
-    let fourth = put_field(out, third, c, b' ');
-    put_field(out, fourth, d, b'\n')
 }

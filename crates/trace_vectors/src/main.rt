@@ -49,7 +49,7 @@ fn made(n: u32, count: usize, out: &mut [u8], room: usize) -> u64 {
         return 255;
     }
     let header = Header { n, start: 7 };
-    let w = trace::write(header, [used; 32], count, [e; 1500], &mut out[..room]);
+    let w = trace_write::write(header, [used; 32], count, [e; 1500], &mut out[..room]);
     wide(w.status)
 }
 
@@ -58,7 +58,7 @@ fn status(file: &[u8], len: usize) -> u64 {
     if file.len() < len {
         return 255;
     }
-    let c = trace_contents::read(&file[..len]);
+    let c = trace_read::read(&file[..len]);
     wide(c.status)
 }
 

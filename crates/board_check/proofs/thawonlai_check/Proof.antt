@@ -7,7 +7,7 @@ use Rattle.board_check.proofs.thawonlai_check.Tie as tie
 use Rattle.board_check.proofs.thawonlai_check.Reads as reads
 use Rattle.board_check.proofs.thawonlai_check.Lts as lts
 use Rattle.listing_check.proofs.checked_of.Reads as checked-of-reads
-use Rattle.listing_check.proofs.verdict_of.Reads as verdict-of-reads
+use Rattle.listing_verdict.proofs.verdict_of.Reads as verdict-of-reads
 
 -- src/lib.rt:15:9
 verdict-of-requires : tie.Need-verdict-of-requires

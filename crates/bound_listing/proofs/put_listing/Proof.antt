@@ -1,4 +1,5 @@
 -- `bound_listing::put_listing` meets its contract: the line of the refusal, or the lines of the table.
+use native.Mathlib.Omega.{arith}
 use borrow.Author.Needs.{needs}
 use Rattle.bound_listing.proofs.LineLaws.{refusal-put, lines-put}
 use Rattle.bound_listing.proofs.put_listing.Statement.{statement}
@@ -10,7 +11,7 @@ returns c =
     let i = c .before .before .before .before in
     let b = i .before .begin-status in
     let a = i .before .before .before .before .args in
-    (refusal-put (a .file .now) (a .ticks) (b .result) (b .ensures) (i .if1 .taken) (p .ensures .0), p .ensures .1)
+    (refusal-put (a .file .now) (a .ticks) (b .result) (b .ensures) (i .if1 .taken) (p .ensures .0), omega (arith, p .ensures .1))
 
 returns-2 : tie.Need-returns-2
 returns-2 c =

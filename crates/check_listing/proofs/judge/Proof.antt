@@ -11,7 +11,7 @@ use Rattle.check_listing.proofs.judge.Lts as lts
 use Rattle.check_listing.proofs.say_verdict.Reads as say-verdict-reads
 use Rattle.check_listing.proofs.show_both.Reads as show-both-reads
 use Rattle.listing_check.proofs.checked_of.Reads as checked-of-reads
-use Rattle.listing_check.proofs.verdict_of.Reads as verdict-of-reads
+use Rattle.listing_verdict.proofs.verdict_of.Reads as verdict-of-reads
 use Rattle.os.proofs.fail.Reads as fail-reads
 
 numbered : (v w : Verdict) (x : Checked) → x ≡ checkedOf v → v ≡ w → x .verdict ≡ checkedOf w .verdict

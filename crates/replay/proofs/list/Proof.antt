@@ -9,7 +9,7 @@ use Rattle.io.proofs.large_buffer.Reads as large-buffer-reads
 use Rattle.io.proofs.write_all.Reads as write-all-reads
 use Rattle.listing.proofs.listing.Reads as listing-reads
 use Rattle.os.proofs.fail.Reads as fail-reads
-use Rattle.replay.proofs.end_of.Reads as end-of-reads
+use Rattle.replay_end.proofs.end_of.Reads as end-of-reads
 
 -- src/main.rt:22:19
 large-buffer-requires : tie.Need-large-buffer-requires

@@ -10,7 +10,7 @@ use Rattle.share_lines.proofs.put_leader.Tie as tie
 use Rattle.share_lines.proofs.put_leader.Reads as reads
 use Rattle.share_lines.proofs.put_leader.Lts as lts
 use Rattle.share_lines.proofs.put_end.Reads as put-end-reads
-use Rattle.text.proofs.put_field.Reads as put-field-reads
+use Rattle.text_fields.proofs.put_field.Reads as put-field-reads
 use Rattle.text.proofs.put_word.Reads as put-word-reads
 
 put-word-requires : tie.Need-put-word-requires

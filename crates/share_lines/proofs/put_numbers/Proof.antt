@@ -12,7 +12,7 @@ use Rattle.share_lines.proofs.put_numbers.Statement.{statement}
 use Rattle.share_lines.proofs.put_numbers.Tie as tie
 use Rattle.share_lines.proofs.put_numbers.Reads as reads
 use Rattle.share_lines.proofs.put_numbers.Lts as lts
-use Rattle.text.proofs.put_field.Reads as put-field-reads
+use Rattle.text_fields.proofs.put_field.Reads as put-field-reads
 use Rattle.text.proofs.put_word.Reads as put-word-reads
 
 room : (s : tie.Start) → s .args .at + length (shareWord ++ field (s .args .i) space ++ field (s .args .total) space ++ field (s .args .elapsed) space) ≤ length (s .args .out .now)

@@ -21,7 +21,7 @@ returns c =
     let p = c .before .before .put-refusal in
     let i = c .before .before .before .before in
     let b = i .before in
-    (refusal-put (started b .args .file .now) (beginning b) (b .begin .ensures .0) (i .if1 .taken) (p .ensures .0), p .ensures .1)
+    (refusal-put (started b .args .file .now) (beginning b) (b .begin .ensures .0) (i .if1 .taken) (p .ensures .0), omega (arith, p .ensures .1))
 
 last-core-requires : tie.Need-last-core-requires
 last-core-requires c κs =

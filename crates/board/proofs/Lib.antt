@@ -1,2 +1,0 @@
--- Laws that the proofs of `board` share.
-pub mod BoardLaws

@@ -1,0 +1,2 @@
+-- Laws that the proofs of `board_opening` share.
+pub mod OpeningLaws

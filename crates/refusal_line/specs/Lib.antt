@@ -1,0 +1,2 @@
+-- What a reader of `refusal_line` must believe.
+pub mod Most
