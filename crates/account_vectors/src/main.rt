@@ -230,37 +230,57 @@ fn made(
     }
 }
 
-// Instants next to each other, and accounts that no sound state has.
-fn edges() {
+// Instants next to each other.
+fn at_once() {
     title(b"due one tick later is pending, due now comes back at once");
     let p = sporadic(10, 10, 2);
     let a = account_making::fresh(p, 0);
     let b = run(p, a, 4, 9);
     block(p, b, false, 9);
     block(p, b, false, 10);
+}
+
+fn returned() {
     title(b"returned while blocked, and while at the upper priority");
-    let q = sporadic(10, 40, 2);
-    due(q, made(4, 0, 15, 1, 40, 6, 0, 0), true, 40);
-    due(q, made(4, 0, 15, 1, 40, 6, 0, 0), false, 40);
+    let p = sporadic(10, 40, 2);
+    due(p, made(4, 0, 15, 1, 40, 6, 0, 0), true, 40);
+    due(p, made(4, 0, 15, 1, 40, 6, 0, 0), false, 40);
+}
+
+// Accounts that no sound state has.
+fn unsound_returned() {
     title(b"held at the budget; two due at one instant");
-    due(q, made(8, 0, 0, 1, 40, 6, 0, 0), true, 40);
-    due(q, made(0, 0, 0, 2, 40, 3, 40, 4), false, 40);
+    let p = sporadic(10, 40, 2);
+    due(p, made(8, 0, 0, 1, 40, 6, 0, 0), true, 40);
+    due(p, made(0, 0, 0, 2, 40, 3, 40, 4), false, 40);
+}
+
+fn unsound_edges() {
+    let p = sporadic(10, 40, 2);
     title(b"a wake with max_repl pending is at low");
-    wake(q, made(2, 0, 15, 2, 40, 4, 41, 4), true, 20);
+    wake(p, made(2, 0, 15, 2, 40, 4, 41, 4), true, 20);
     title(b"a limit with nothing charged");
-    limit(q, made(0, 0, 15, 1, 40, 10, 0, 0), false, 20);
+    limit(p, made(0, 0, 15, 1, 40, 10, 0, 0), false, 20);
 }
 
 // A rule that does not concern the thread leaves the account alone.
-fn unconcerned() {
-    let p = sporadic(10, 40, 2);
+fn unconcerned_limit() {
     title(b"a limit of a blocked thread, and of a runnable one");
+    let p = sporadic(10, 40, 2);
     limit(p, made(0, 10, 0, 0, 0, 0, 0, 0), true, 20);
     limit(p, made(0, 10, 0, 0, 0, 0, 0, 0), false, 20);
+}
+
+fn unconcerned_block() {
     title(b"a block of a blocked thread, and of a runnable one");
+    let p = sporadic(10, 40, 2);
     block(p, made(6, 4, 0, 0, 0, 0, 0, 0), true, 20);
     block(p, made(6, 4, 0, 0, 0, 0, 0, 0), false, 20);
+}
+
+fn unconcerned_wake() {
     title(b"a wake of a runnable thread, at upper and at low, and of a blocked one");
+    let p = sporadic(10, 40, 2);
     wake(p, made(4, 0, 15, 1, 40, 6, 0, 0), false, 20);
     wake(p, made(2, 0, 15, 2, 40, 4, 41, 4), false, 20);
     wake(p, made(4, 0, 15, 1, 40, 6, 0, 0), true, 20);
@@ -274,10 +294,10 @@ fn check(p: Parameters, a: Account, blocked: bool, start: u64, now: u64) {
     }
 }
 
-// Pairs on the two sides of each clause of soundness.
-fn numbers_sound() {
-    let p = sporadic(10, 40, 2);
+// Pairs on the two sides of each clause of soundness, a function for each clause.
+fn sum_sound() {
     title(b"sum is the budget");
+    let p = sporadic(10, 40, 2);
     check(p, made(4, 0, 15, 1, 40, 6, 0, 0), false, 0, 15);
     check(p, made(5, 0, 15, 1, 40, 6, 0, 0), false, 0, 15);
     check(p, made(3, 0, 15, 1, 40, 6, 0, 0), false, 0, 15);
@@ -296,13 +316,21 @@ fn numbers_sound() {
         30,
     );
     end_line();
+}
+
+fn used_sound() {
     title(b"U of a blocked or low thread is 0");
+    let p = sporadic(10, 40, 2);
     check(p, made(2, 2, 15, 1, 40, 6, 0, 0), false, 0, 17);
     check(p, made(2, 2, 15, 1, 40, 6, 0, 0), true, 0, 17);
     check(p, made(1, 1, 15, 2, 40, 6, 41, 2), false, 0, 17);
     check(p, made(0, 2, 15, 1, 40, 8, 0, 0), false, 0, 17);
     end_line();
+}
+
+fn elapsed_sound() {
     title(b"U is at most now - activation");
+    let p = sporadic(10, 40, 2);
     check(p, made(2, 2, 15, 1, 40, 6, 0, 0), false, 0, 16);
     check(
         p,
@@ -312,22 +340,30 @@ fn numbers_sound() {
         17,
     );
     end_line();
+}
+
+fn activation_sound() {
     title(b"activation from start to now");
+    let p = sporadic(10, 40, 2);
     check(p, made(4, 0, 15, 1, 40, 6, 0, 0), false, 15, 15);
     check(p, made(4, 0, 15, 1, 40, 6, 0, 0), false, 16, 16);
     check(p, made(4, 0, 15, 1, 40, 6, 0, 0), false, 0, 14);
     end_line();
 }
 
-fn entries_sound() {
-    let p = sporadic(10, 40, 2);
+fn dues_after_now() {
     title(b"dues after now");
+    let p = sporadic(10, 40, 2);
     check(p, made(4, 0, 15, 1, 40, 6, 0, 0), true, 0, 39);
     check(p, made(4, 0, 15, 1, 40, 6, 0, 0), true, 0, 40);
     end_line();
+}
+
+fn dues_in_the_window() {
     title(
         b"dues at most 1,000,000,000 ticks after now, past now + period and past activation + period too",
     );
+    let p = sporadic(10, 40, 2);
     check(p, made(4, 0, 10, 1, 55, 6, 0, 0), true, 0, 15);
     check(p, made(4, 0, 10, 1, 50, 6, 0, 0), false, 0, 15);
     check(p, made(4, 0, 10, 1, 1000000015, 6, 0, 0), true, 0, 15);
@@ -340,14 +376,25 @@ fn entries_sound() {
         15,
     );
     end_line();
+}
+
+fn dues_in_order() {
     title(b"dues don't fall");
+    let p = sporadic(10, 40, 2);
     check(p, made(2, 0, 15, 2, 40, 4, 41, 4), true, 0, 20);
     check(p, made(2, 0, 15, 2, 40, 4, 40, 4), true, 0, 20);
     check(p, made(2, 0, 15, 2, 41, 4, 40, 4), true, 0, 20);
     end_line();
+}
+
+fn amounts_sound() {
     title(b"amounts at least 1");
+    let p = sporadic(10, 40, 2);
     check(p, made(4, 0, 15, 2, 40, 6, 41, 0), true, 0, 20);
     end_line();
+}
+
+fn count_sound() {
     title(b"count at most max_repl, and at most the places");
     check(
         sporadic(10, 40, 1),
@@ -371,7 +418,11 @@ fn entries_sound() {
         20,
     );
     end_line();
+}
+
+fn places_sound() {
     title(b"places past the count hold 0");
+    let p = sporadic(10, 40, 2);
     check(p, made(4, 0, 15, 1, 40, 6, 7, 0), false, 0, 15);
     check(p, made(4, 0, 15, 1, 40, 6, 0, 7), false, 0, 15);
     check(p, made(10, 0, 15, 0, 1, 0, 0, 0), false, 0, 15);
@@ -384,8 +435,21 @@ fn main() {
     budget_is_period();
     preempted();
     wake_and_block();
-    edges();
-    unconcerned();
-    numbers_sound();
-    entries_sound();
+    at_once();
+    returned();
+    unsound_returned();
+    unsound_edges();
+    unconcerned_limit();
+    unconcerned_block();
+    unconcerned_wake();
+    sum_sound();
+    used_sound();
+    elapsed_sound();
+    activation_sound();
+    dues_after_now();
+    dues_in_the_window();
+    dues_in_order();
+    amounts_sound();
+    count_sound();
+    places_sound();
 }
