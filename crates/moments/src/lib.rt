@@ -172,8 +172,9 @@ fn put_entry(
 
 // The state at the time t, with what is told of the way to it. Each turn does one thing: what is due now comes back, an entry at a time and by thread
 // number; or the ticks up to the next moment are charged, and the limit or the end of the quantum that falls on it comes first.
-// The core is changed in place: a call that took it would copy it. A thread is stored before anything else of the core, so that what stays of it is
-// not written.
+// Where no moment falls up to t, the ticks up to it are all that is left. The word of the pending threads is kept from search to search, since a turn
+// changes one count at most. The core is changed in place: a call that took it would copy it. A thread is stored before anything else of the core, so
+// that what stays of it is not written.
 pub fn advance(
     mut s: Core,
     dues: &mut Slots,
@@ -186,7 +187,6 @@ pub fn advance(
     ensures { λ r. ⌜ whole r (now (dues .exit)) (now (amounts .exit)) ≡ passed (whole s (now (dues .entry)) (now (amounts .entry))) t ⌝ }
     ensures numbers { λ _. ⌜ now (told .exit) ≡ numbers (reported (whole s (now (dues .entry)) (now (amounts .entry))) t) ⌝ }
 {
-    // kept from search to search, since a turn changes one count at most
     let mut waiting = pending_words::pending_word(&s.counts);
     let mut x = due_search::next_in_word(waiting, dues, 0);
     loop {
@@ -211,7 +211,6 @@ pub fn advance(
         let before = s.threads[i];
         let limit = next_moment::limit_at(s.now, p, before);
         let m = moment_order::earlier_of(limit, x.due);
-        // no moment up to t: its ticks are all that is left
         if !moment_order::due_by(m, t) {
             let k = t - s.now;
             let rest = ticks::charged_thread(p, k, before);
