@@ -1,4 +1,5 @@
 -- `carrying::carry_server` meets its contract.
+use mathlib.Core.Path.{refl}
 use borrow.Author.Needs.{needs}
 use Rattle.sporadic.proofs.CarryLaws.{server-now, server-own}
 use Rattle.carrying.proofs.carry_server.Statement.{statement}
@@ -11,7 +12,7 @@ sub-capacity : tie.Need-sub-capacity
 sub-capacity c = search needs
 
 goes-up-requires : tie.Need-goes-up-requires
-goes-up-requires c κs = search needs
+goes-up-requires c κs = refl
 
 returns : tie.Need-returns
 returns c =
