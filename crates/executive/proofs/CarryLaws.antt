@@ -1,5 +1,6 @@
--- A set that carries an account over: its status by cases, and where no moment falls up to the event.
-use Prim.Native.Nat.{ℕ, _-_, _<_}
+-- A turn of an event's loop as it is read; and a set that carries an account over: its status by cases, and where no moment falls up to
+-- the event.
+use Prim.Native.Nat.{ℕ, _-_, _≤_, _<_}
 use mathlib.Core.Bool.{Bool, false, cond, _&&_}
 use mathlib.Core.Path.{_≡_, refl, sym, ap, ap₂, _∙_}
 use mathlib.Core.List.{List}
@@ -12,14 +13,36 @@ use borrow.Author.Tests.{eq-eqb, ne-eqb}
 use Rattle.base.proofs.TestLaws.{cond-true, cond-false}
 use Rattle.records.specs.declared.Event.{Event}
 use Rattle.passing.specs.Time.{dueBy}
+use Rattle.ready.specs.Lists.{headOf}
 use Rattle.thread.specs.declared.Thread.{Thread}
 use Rattle.thread.specs.Thread.{noThread}
 use Rattle.state.specs.declared.State.{State}
 use Rattle.state.specs.State.{threadAt}
-use Rattle.ticks.specs.Running.{ran}
+use Rattle.state.proofs.SoundLaws.{Sound}
+use Rattle.ticks.specs.Running.{level, ran, earlier, limitOf}
 use Rattle.moments.specs.Moments.{passed}
+use Rattle.moments.proofs.TurnLaws.{start, firstOf}
 use Rattle.moments.proofs.AdvanceLaws.{Turn, last}
 use Rattle.executive.specs.Private.{carryStatus, carryStatusAt, ranUpTo}
+
+-- the highest list p, its head h at place i, and the next moment m, for an event at time t
+abbrev pub turnOf : (s : State) → Sound s → (t : ℕ) → t ≤ 1000000000000000 → s .now ≤ t → (p h i m : ℕ) → p ≡ level s → h ≡ cond (eqb p 0) 0 (headOf p (s .lists)) → i ≡ h
+    → m ≡ earlier (cond (eqb p 0) 0 (limitOf (s .now) p (threadAt s i))) (firstOf s .due) → Turn
+turnOf s a t top by p h i m ep eh ei em =
+    record {
+      origin = s;
+      to = t;
+      bounded = top;
+      state = s;
+      going = start s t a by;
+      first = firstOf s;
+      list = p;
+      head = h;
+      at = i;
+      limit = cond (eqb p 0) 0 (limitOf (s .now) p (threadAt s i));
+      moment = m;
+      seen = record { first = refl; list = ep; top = eh; at = ei; limit = refl; moment = em };
+    }
 
 pub status-by : (a b x y : Bool) → a ≡ x → b ≡ y → cond {A = ℕ} (x && y) 15 0 ≡ cond (a && b) 15 0
 status-by a b x y e f = ap₂ (λ (v w : Bool). cond {A = ℕ} (v && w) 15 0) (sym e) (sym f)

@@ -18,11 +18,9 @@ use Rattle.ready.specs.Rules.{Leavable, Joinable, Movable}
 use Rattle.ready.proofs.SoundLaws.{leavable, joinable, movable}
 use Rattle.thread.specs.declared.Thread.{Thread}
 use Rattle.state.specs.declared.State.{State}
-use Rattle.rows.specs.Rows.{withSlots}
 use Rattle.state.specs.State.{threadAt, pendingAt, accountAt, place}
 use Rattle.state.specs.Sound.{soundState}
 use Rattle.state.specs.Updates.{withLists, withAccount, stateOf}
-use Rattle.thread.specs.Thread.{withServer}
 use Rattle.state.proofs.SoundLaws.{state-out}
 use Rattle.ticks.specs.Running.{level, head, idles}
 use Rattle.events.specs.declared.Change.{Change}
@@ -30,6 +28,8 @@ use Rattle.events.specs.Events.{changeOf, shifted, withChange, concerned, event
 use Rattle.events.specs.Answers.{fieldStatus, stateStatus}
 use Rattle.events.proofs.EventLaws.{Right, to-most, fields, busy, change-right}
 use Rattle.state.proofs.UpdateLaws.{put-is, lists-are}
+use Rattle.executive.specs.declared.changes.Left.{Left}
+use Rattle.executive.specs.Private.{leftOf, InPlace}
 use Rattle.executive.proofs.RequiresLaws.{block-requires, carry-requires}
 
 pub happened-none : (s : State) (e : Event) → e .kind ≡ 0 → s ≡ happened s e
@@ -88,11 +88,11 @@ module _ (s : State) (e : Event) (n j : ℕ) (v : Concerns s e n j) where
           ∙ ap (λ (i : ℕ). changeOf (e .kind) (s .now) (e .parameters) (threadAt s i) (accountAt s i)) (v .there ∙ v .who)
 
       -- the lists allow what the change asks
-      pub shift-requires : (c .from ≡ 0 → c .to ≡ 0 → s .word ≡ occupancy (s .lists))
+      lists-allow : (c .from ≡ 0 → c .to ≡ 0 → s .word ≡ occupancy (s .lists))
           × (c .from ≡ 0 → (c .to ≡ 0 → ⊥) → Joinable (s .word) (c .to) (s .lists))
           × ((c .from ≡ 0 → ⊥) → c .to ≡ 0 → Leavable (s .word) (c .from) n (s .lists))
           × ((c .from ≡ 0 → ⊥) → (c .to ≡ 0 → ⊥) → Movable (s .word) n (c .from) (c .to) (s .lists))
-      shift-requires =
+      lists-allow =
           let h = state-out s (v .sound) in
           let r : Right s n c = rw (given, v .who) right in
           let top = to-most s h n c r in
@@ -103,17 +103,32 @@ module _ (s : State) (e : Event) (n j : ℕ) (v : Concerns s e n j) where
             λ x y. movable (place s) (s .word) (s .lists) (h .lists) n (r .small) (c .from) (c .to) (omega (arith, x)) (omega (arith, r .from, most)) (sym (r .from)) (omega (arith, y)) top,
           )
 
-      -- the state as the code leaves it
-      pub change-is : (u : Thread) → u ≡ withServer (c .account .server) (c .thread)
-          → (d m k : List ℕ) (w : ℕ) → d ≡ withSlots j (c .account .pending .dues) (s .dues) → m ≡ withSlots j (c .account .pending .amounts) (s .amounts)
-          → k ≡ shifted n (c .from) (c .to) (s .lists) → w ≡ occupancy (shifted n (c .from) (c .to) (s .lists))
-          → (stateOf (s .header) (s .now) (s .idle) w (lists.set (s .threads) j u) (lists.set (s .counts) j (c .account .pending .count)) d m k)
-          ≡ happened s e
-      change-is u eu d m k w ed em ek ew =
-          lists-are
-          (stateOf (s .header) (s .now) (s .idle) (s .word) (lists.set (s .threads) j u) (lists.set (s .counts) j (c .account .pending .count)) d m (s .lists))
-          k _ w ek ew
-          ∙ ap (withLists (shifted n (c .from) (c .to) (s .lists))) (put-is s j (c .thread) (c .account) u d m eu ed em ∙ ap (λ (i : ℕ). withAccount i (c .thread) (c .account) s) (v .there))
-          ∙ ap (λ (i : ℕ). withChange i c s) (v .who)
-          ∙ ap (λ (x : Change). withChange (concerned s e) x s) given
-          ∙ happened-some s e (v .some)
+      -- what is left of it once the entries are in place
+      module _ (r : Left) (er : r ≡ leftOf c) where
+        pub shift-requires : (r .from ≡ 0 → r .to ≡ 0 → s .word ≡ occupancy (s .lists))
+            × (r .from ≡ 0 → (r .to ≡ 0 → ⊥) → Joinable (s .word) (r .to) (s .lists))
+            × ((r .from ≡ 0 → ⊥) → r .to ≡ 0 → Leavable (s .word) (r .from) n (s .lists))
+            × ((r .from ≡ 0 → ⊥) → (r .to ≡ 0 → ⊥) → Movable (s .word) n (r .from) (r .to) (s .lists))
+        shift-requires =
+            subst⁻¹ (λ (x : Left).
+            (x .from ≡ 0 → x .to ≡ 0 → s .word ≡ occupancy (s .lists))
+            × (x .from ≡ 0 → (x .to ≡ 0 → ⊥) → Joinable (s .word) (x .to) (s .lists))
+            × ((x .from ≡ 0 → ⊥) → x .to ≡ 0 → Leavable (s .word) (x .from) n (s .lists))
+            × ((x .from ≡ 0 → ⊥) → (x .to ≡ 0 → ⊥) → Movable (s .word) n (x .from) (x .to) (s .lists)))
+            er lists-allow
+
+        -- the state as the code leaves it
+        pub change-is : (ns d m : List ℕ) → InPlace j (c .account .pending) (s .counts) (s .dues) (s .amounts) ns d m
+            → (k : List ℕ) (w : ℕ) → k ≡ shifted n (r .from) (r .to) (s .lists) → w ≡ occupancy (shifted n (r .from) (r .to) (s .lists))
+            → stateOf (s .header) (s .now) (s .idle) w (lists.set (s .threads) j (r .thread)) ns d m k ≡ happened s e
+        change-is ns d m en k w ek ew =
+            let shifts : shifted n (r .from) (r .to) (s .lists) ≡ shifted n (c .from) (c .to) (s .lists) = ap (λ (x : Left). shifted n (x .from) (x .to) (s .lists)) er in
+            ap (λ (xs : List ℕ). stateOf (s .header) (s .now) (s .idle) w (lists.set (s .threads) j (r .thread)) xs d m k) (en .0)
+            ∙ lists-are
+            (stateOf (s .header) (s .now) (s .idle) (s .word) (lists.set (s .threads) j (r .thread)) (lists.set (s .counts) j (c .account .pending .count)) d m (s .lists))
+            k _ w (ek ∙ shifts) (ew ∙ ap occupancy shifts)
+            ∙ ap (withLists (shifted n (c .from) (c .to) (s .lists)))
+            (put-is s j (c .thread) (c .account) (r .thread) d m (ap (λ (x : Left). x .thread) er) (en .1) (en .2) ∙ ap (λ (i : ℕ). withAccount i (c .thread) (c .account) s) (v .there))
+            ∙ ap (λ (i : ℕ). withChange i c s) (v .who)
+            ∙ ap (λ (x : Change). withChange (concerned s e) x s) given
+            ∙ happened-some s e (v .some)

@@ -4,7 +4,9 @@ ghost use mathlib.Core.Bool.{true, false, cond, _&&_};
 ghost use Prim.Native.Nat.{_+_, _-_, _≤_, _<_, _^_};
 ghost use lib.Dec.{ltb, eqb};
 ghost use Rattle.records.specs.Ranges.{mostThreads, lastTime, longestStep};
-ghost use Rattle.ticks.specs.Running.{ran};
+ghost use Rattle.ready.specs.Lists.{headOf};
+ghost use Rattle.ready.specs.Word.{highestOf};
+ghost use Rattle.ticks.specs.Running.{next};
 ghost use Rattle.moments.specs.Moments.{passed};
 ghost use Rattle.state.specs.Sound.{soundState};
 ghost use Rattle.state.specs.Updates.{whole};
@@ -46,7 +48,7 @@ fn carry_status(e: Event, t: Thread, count: u8) -> u8
 
 // The same where no moment falls up to the event: up to its time the thread t that it names has run in list `level`, if it
 // is the head, and otherwise stays as it is.
-pub(super) fn status_now(e: Event, t: Thread, count: u8, level: u8, head: u8, now: u64) -> u8
+fn status_now(e: Event, t: Thread, count: u8, level: u8, head: u8, now: u64) -> u8
     requires { ⌜ (now ≤ e .time)
         × (head ≡ e .thread → eqb level 0 ≡ false → (t .total + (e .time - now) < 2 ^ 64) × (t .server .used + (e .time - now) < 2 ^ 64)
         × (t .parameters .policy ≡ 1 → e .time - now ≤ t .left)
@@ -61,7 +63,7 @@ pub(super) fn status_now(e: Event, t: Thread, count: u8, level: u8, head: u8, no
 }
 
 // The same where one does: a copy of the state is brought to the event's time.
-pub(super) fn status_then<'a>(s: Core, dues: &'a Slots, amounts: &'a Slots, e: Event) -> u8
+fn status_then<'a>(s: Core, dues: &'a Slots, amounts: &'a Slots, e: Event) -> u8
     requires { ⌜ (soundState (whole s (now dues) (now amounts)) ≡ true) × (s .now ≤ e .time) × (e .time ≤ lastTime) × (e .time ≤ s .now + longestStep)
         × (e .thread < mostThreads) ⌝ }
     ensures { λ r. ⌜ r ≡ carryStatusAt (passed (whole s (now (dues .entry)) (now (amounts .entry))) (e .time)) e ⌝ }
@@ -73,4 +75,27 @@ pub(super) fn status_then<'a>(s: Core, dues: &'a Slots, amounts: &'a Slots, e: E
     let i = base::wide(e.thread);
     let t = then.threads[i];
     carry_status(e, t, then.counts[i])
+}
+
+// The same for any: the highest list, its head and the next moment are what they are for the state.
+pub(super) fn status_at<'a>(
+    s: Core,
+    dues: &'a Slots,
+    amounts: &'a Slots,
+    e: Event,
+    level: u8,
+    head: u8,
+    moment: u64,
+) -> u8
+    requires { ⌜ (soundState (whole s (now dues) (now amounts)) ≡ true) × (s .now ≤ e .time) × (e .time ≤ lastTime) × (e .time ≤ s .now + longestStep)
+        × (e .thread < mostThreads) × (level ≡ highestOf (s .word)) × (head ≡ cond (eqb level 0) 0 (headOf level (s .lists)))
+        × (moment ≡ next (whole s (now dues) (now amounts))) ⌝ }
+    ensures { λ r. ⌜ r ≡ carryStatusAt (passed (whole s (now (dues .entry)) (now (amounts .entry))) (e .time)) e ⌝ }
+{
+    if moment_order::due_by(moment, e.time) {
+        return status_then(s, dues, amounts, e);
+    }
+    let i = base::wide(e.thread);
+    let t = s.threads[i];
+    status_now(e, t, s.counts[i], level, head, s.now)
 }

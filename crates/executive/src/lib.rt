@@ -75,7 +75,7 @@ fn clear(known: bool, told: &mut [u64; NUMBERS])
 
 // An event for a state that is changed in place: each call that took the core would copy it, so it is copied only where a
 // moment falls up to the event. The last turn of the loop gives the answer; the turns before it judge a set that carries an account
-// over, bring the state to the event's time and do what the event does.
+// over, once, at the event's time and before anything is changed, bring the state to that time and do what the event does.
 fn answer_event(
     mut s: Core,
     dues: &mut Slots,
@@ -106,11 +106,9 @@ fn answer_event(
     ) {
         return answers::nothing_runs(base::NOT_SOUND, s);
     }
-    let at = parts::index(e.thread);
-    let named = s.threads[at];
+    let named = s.threads[parts::index(e.thread)];
     let mut status = statuses::status_of(header.n, s.now, s.word, 0 < named.blocked, e);
     let mut done = status != 0;
-    // 15 is judged at the event's time, once, and before anything is changed
     let mut judging = carries::carries_over(e.kind, named.parameters.policy, e.parameters.policy);
     loop {
         let n = s.header.n as usize;
@@ -125,13 +123,7 @@ fn answer_event(
         }
         if judging {
             judging = false;
-            if moment_order::due_by(next, e.time) {
-                status = carries::status_then(s, dues, amounts, e);
-                done = status != 0;
-                continue;
-            }
-            let worker = s.threads[at];
-            status = carries::status_now(e, worker, s.counts[at], level, h, s.now);
+            status = carries::status_at(s, dues, amounts, e, level, h, next);
             done = status != 0;
             continue;
         }
@@ -151,18 +143,10 @@ fn answer_event(
         let number = changes::concerned(e.kind, e.thread, h);
         let j = base::wide(number);
         let t = s.threads[j];
-        reports::tell_back(told, j, changes::own_back(e, t));
-        let q = pending_rows::pending_at(&s.counts, dues, amounts, j);
-        let c = changes::change_of(e, t, q);
+        let c = changes::happen(e, t, j, &mut s.counts, dues, amounts, told);
         let u = c.thread;
-        let b = c.account;
-        let pending = b.pending;
-        let changed = changes::served(u, b);
-        s.threads[j] = changed;
-        s.counts[j] = pending.count;
-        pending_rows::write_pending(dues, amounts, j, pending);
-        let word = s.word;
-        s.word = changes::shift(&mut s.lists, word, number, c.from, c.to);
+        s.threads[j] = u;
+        s.word = changes::shift(s.word, &mut s.lists, number, c.from, c.to);
     }
 }
 

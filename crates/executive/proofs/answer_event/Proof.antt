@@ -24,14 +24,14 @@ use Rattle.moments.proofs.SeenLaws.{seen-held}
 use Rattle.moments.proofs.AdvanceLaws.{Turn, is-next, rest-fits, rest-idle, last}
 use Rattle.moments.proofs.AnswerLaws.{head-below, running-held, next-requires}
 use Rattle.events.specs.Events.{happened}
-use Rattle.events.specs.Reports.{eventNumbers}
+use Rattle.events.specs.Reports.{ownBack, eventNumbers}
 use Rattle.answers.specs.declared.Answer.{Answer}
 use Rattle.answers.specs.Answer.{answerOf}
 use Rattle.answers.proofs.AnswerLaws.{answered-is}
 use Rattle.executive.proofs.RequiresLaws.{dues-length, amounts-length}
 use Rattle.executive.proofs.ToldLaws.{Told, told-clock, own-requires, told-own}
 use Rattle.executive.specs.Private.{carryStatusAt}
-use Rattle.executive.proofs.CarryLaws.{now-status}
+use Rattle.executive.proofs.CarryLaws.{turnOf}
 use Rattle.executive.proofs.StepLaws.{Open, Judges, Stage, unsound-is, unsound-told, arrives, allowed, at-time, still-due, weight, turn-falls, turn-ends, turn-judges, starts, judged, carries, finishes}
 use Rattle.executive.proofs.DoneLaws.{Concerns, happened-none, who-is, change-small, change-requires, set-requires, change-is}
 use Rattle.executive.proofs.DoneLaws as laws
@@ -39,11 +39,11 @@ use Rattle.executive.proofs.answer_event.Statement.{statement}
 use Rattle.executive.proofs.answer_event.Tie as tie
 
 abbrev Inv-loop : tie.InvT-loop
-Inv-loop dues₀ amounts₀ told₀ e known s₀ at status₀ done₀ judging₀ dues amounts told s status done judging =
+Inv-loop dues₀ amounts₀ told₀ e known s₀ status₀ done₀ judging₀ dues amounts told s status done judging =
     Stage (whole s₀ dues₀ amounts₀) e status (whole s dues amounts) told done judging
 
 abbrev μ-loop : tie.MeasureT-loop
-μ-loop dues₀ amounts₀ told₀ e known s₀ at status₀ done₀ judging₀ dues amounts told s status done judging = weight done judging (e .time - s .now)
+μ-loop dues₀ amounts₀ told₀ e known s₀ status₀ done₀ judging₀ dues amounts told s status done judging = weight done judging (e .time - s .now)
 
 -- ---- the stages, each with the way to an earlier one
 
@@ -93,7 +93,7 @@ Still = tie.Else3 Inv-loop μ-loop
 
 -- no moment is due by its time
 abbrev Rest : Type 0
-Rest = tie.Else5 Inv-loop μ-loop
+Rest = tie.Else4 Inv-loop μ-loop
 
 -- the ticks up to its time are charged
 abbrev Charged : Type 0
@@ -103,13 +103,9 @@ Charged = tie.After-charged-idle Inv-loop μ-loop
 abbrev Named : Type 0
 Named = tie.After-wide2 Inv-loop μ-loop
 
--- and so are its entries
-abbrev Found : Type 0
-Found = tie.After-pending-at Inv-loop μ-loop
-
--- the change is in place but for the lists
-abbrev Put : Type 0
-Put = tie.After-served Inv-loop μ-loop
+-- its entries and what the event tells are in place
+abbrev Entered : Type 0
+Entered = tie.After-happen Inv-loop μ-loop
 
 abbrev placed : Judged → Placed
 placed c = c .before .before .before .before
@@ -147,15 +143,8 @@ rest c = c .before .before .before
 abbrev charged : Named → Charged
 charged c = c .before .before .before .before
 
--- what its effect brings back is told
-abbrev hears : Found → tie.After-tell-back Inv-loop μ-loop
-hears c = c .before .before .before .before .before
-
-abbrev named : Found → Named
-named c = hears c .before .before .before .before
-
-abbrev found : Put → Found
-found c = c .before .before .before .before .before
+abbrev named : Entered → Named
+named c = c .before .before .before .before .before .before
 
 -- ---- the states at the stages
 
@@ -269,28 +258,8 @@ due-by-requires c κs = tt
 abbrev turnAt : (c : Undone) → eventOf (turned c) .time ≤ 1000000000000000 → stateHere (turned c) .now ≤ eventOf (turned c) .time → Turn
 turnAt c top by =
     let w = topped (c .before) in
-    let s = stateHere (turned c) in
-    record {
-      origin = s;
-      to = eventOf (turned c) .time;
-      bounded = top;
-      state = s;
-      going = start s (eventOf (turned c) .time) (sound (turned c)) by;
-      first = firstOf s;
-      list = w .before .before .before .before .highest .result;
-      head = w .before .head-at .result;
-      at = w .wide .result;
-      limit = cond (eqb (w .before .before .before .before .highest .result) 0) 0 (limitOf (s .now) (w .before .before .before .before .highest .result) (threadAt s (w .wide .result)));
-      moment = c .before .next-moment .result;
-      seen = record {
-        first = refl;
-        list = w .before .before .before .before .highest .ensures;
-        top = w .before .head-at .ensures;
-        at = w .wide .ensures;
-        limit = refl;
-        moment = c .before .next-moment .ensures;
-      };
-    }
+    turnOf (stateHere (turned c)) (sound (turned c)) (eventOf (turned c) .time) top by _ _ _ (c .before .next-moment .result) (w .before .before .before .before .highest .ensures) (w .before .head-at .ensures) (w .wide .ensures)
+    (c .before .next-moment .ensures)
 
 -- ---- a set that carries an account over is judged
 
@@ -305,64 +274,26 @@ settled : (c : Judging) (k : ℕ) → k ≡ carryStatusAt (passed (stateHere (tu
     → Stage (stateGiven (entry (turned (c .before)))) (eventOf (turned (c .before))) k (stateHere (turned (c .before))) (turned (c .before) .loop .told) (not (eqb k 0)) false
 settled c k f = judged _ _ (eventOf (turned (c .before))) _ (untouched c) k f
 
-status-then-requires : tie.Need-status-then-requires Inv-loop μ-loop
-status-then-requires c κs = let j = judging (c .before .before .before .before) in (j .sound, j .by, j .top, j .near, j .there)
-
-loop-less : tie.Need-loop-less Inv-loop μ-loop
-loop-less c = let d = c .before .before .before .before .before in turn-judges _ _ (not (eqb (c .status-then .result) 0)) _ (d .before .if2 .left) (d .if3 .taken)
-
-loop-again : tie.Need-loop-again Inv-loop μ-loop
-loop-again c = settled (c .before .before .before .before .before) _ (c .status-then .ensures)
-
--- where no moment is due by its time
-place-small : (c : Judging) → placed (turned (c .before) .before) .index .result < 32
-place-small c = placed (turned (c .before) .before) .index .ensures .0
-
-mul-worker : tie.Need-mul-worker Inv-loop μ-loop
-mul-worker c = omega (arith, place-small (c .before .before))
-
-element-copy-out-worker : tie.Need-element-copy-out-worker Inv-loop μ-loop
-element-copy-out-worker c = place-small (c .before .before)
-
-element-copy-out-status-now : tie.Need-element-copy-out-status-now Inv-loop μ-loop
-element-copy-out-status-now c = place-small (c .before .before .before)
-
-abbrev turnNow : Judging → Turn
-turnNow c = let j = judging c in turnAt (c .before) (j .top) (j .by)
-
-none-now : (c : tie.Else4 Inv-loop μ-loop) → dueBy (turnNow (c .before .before) .moment) (turnNow (c .before .before) .to) ≡ false
-none-now c = sym (c .before .due-by .ensures) ∙ c .if4 .left
-
--- the thread stands where its number says
-stands : (c : Judging) → placed (turned (c .before) .before) .index .result ≡ eventOf (turned (c .before)) .thread
-stands c = placed (turned (c .before) .before) .index .ensures .1 (judging c .there)
-
-status-now-requires : tie.Need-status-now-requires Inv-loop μ-loop
-status-now-requires c κs =
-    let x = c .before .before in
-    let d = x .before .before in
-    let w = topped (d .before .before) in (
-      judging d .by,
-      λ q. subst⁻¹ (λ (n : ℕ). eqb (turnNow d .list) 0 ≡ false → (threadAt (turnNow d .state) n .total + (turnNow d .to - turnNow d .state .now) < 2 ^ 64)
-          × (threadAt (turnNow d .state) n .server .used + (turnNow d .to - turnNow d .state .now) < 2 ^ 64)
-          × (threadAt (turnNow d .state) n .parameters .policy ≡ 1 → turnNow d .to - turnNow d .state .now ≤ threadAt (turnNow d .state) n .left)
-          × (1 < threadAt (turnNow d .state) n .parameters .policy → turnNow d .list ≡ threadAt (turnNow d .state) n .parameters .priority → turnNow d .to - turnNow d .state .now ≤ threadAt (turnNow d .state) n .server .capacity))
-          (stands d ∙ sym q ∙ sym (w .wide .ensures))
-          (rest-fits (turnNow d) (none-now x)),
+status-at-requires : tie.Need-status-at-requires Inv-loop μ-loop
+status-at-requires c κs =
+    let d = c .before .before in
+    let w = topped (d .before .before) in
+    let j = judging d in (
+      j .sound,
+      j .by,
+      j .top,
+      j .near,
+      j .there,
+      w .before .before .before .before .highest .ensures,
+      w .before .head-at .ensures,
+      is-next (turnAt (d .before) (j .top) (j .by)),
     )
 
-loop-less-2 : tie.Need-loop-less-2 Inv-loop μ-loop
-loop-less-2 c = let d = c .before .before .before .before .before in turn-judges _ _ (not (eqb (c .status-now .result) 0)) _ (d .before .if2 .left) (d .if3 .taken)
+loop-less : tie.Need-loop-less Inv-loop μ-loop
+loop-less c = let d = c .before .before .before in turn-judges _ _ (not (eqb (c .status-at .result) 0)) _ (d .before .if2 .left) (d .if3 .taken)
 
-loop-again-2 : tie.Need-loop-again-2 Inv-loop μ-loop
-loop-again-2 c =
-    let x = c .before .before .before in
-    let d = x .before .before in
-    let w = topped (d .before .before) in
-    settled d _ (c .status-now .ensures ∙ now-status (turnNow d) (none-now x) (omega (tests, sound (turned (d .before)) .sizes, head-small w)) (eventOf (turned (d .before))) _ _ (stands d) (w .wide .ensures))
-
-due-by-requires-2 : tie.Need-due-by-requires-2 Inv-loop μ-loop
-due-by-requires-2 c κs = tt
+loop-again : tie.Need-loop-again Inv-loop μ-loop
+loop-again c = settled (c .before .before .before) _ (c .status-at .ensures)
 
 -- ---- the event is still to come
 
@@ -381,11 +312,11 @@ telling c = standing c .2
 abbrev turn : (c : Still) → Turn
 turn c = turnAt (c .before) (to-come c .top) (to-come c .by)
 
-is-due : (c : tie.Then5 Inv-loop μ-loop) → dueBy (next (stateHere (here (c .before .before)))) (eventOf (here (c .before .before)) .time) ≡ true
-is-due c = ap (λ (m : ℕ). dueBy m (eventOf (here (c .before .before)) .time)) (sym (is-next (turn (c .before .before)))) ∙ sym (c .before .due-by2 .ensures) ∙ c .if5 .taken
+is-due : (c : tie.Then4 Inv-loop μ-loop) → dueBy (next (stateHere (here (c .before .before)))) (eventOf (here (c .before .before)) .time) ≡ true
+is-due c = ap (λ (m : ℕ). dueBy m (eventOf (here (c .before .before)) .time)) (sym (is-next (turn (c .before .before)))) ∙ sym (c .before .due-by .ensures) ∙ c .if4 .taken
 
 -- so the event's time is still to come
-before : (c : tie.Then5 Inv-loop μ-loop) → stateHere (here (c .before .before)) .now < eventOf (here (c .before .before)) .time
+before : (c : tie.Then4 Inv-loop μ-loop) → stateHere (here (c .before .before)) .now < eventOf (here (c .before .before)) .time
 before c = let b = c .before .before in still-due _ (eventOf (here b)) (stateHere (here b)) (to-come b) (is-due c)
 
 advance-requires : tie.Need-advance-requires Inv-loop μ-loop
@@ -393,16 +324,16 @@ advance-requires c κs =
     let d = c .before .before .before in
     let o = to-come (d .before .before) in (o .sound, o .by, o .top, o .near, telling (d .before .before) .early (before d) .1)
 
-loop-less-3 : tie.Need-loop-less-3 Inv-loop μ-loop
-loop-less-3 c =
+loop-less-2 : tie.Need-loop-less-2 Inv-loop μ-loop
+loop-less-2 c =
     let d = c .before .before .before .before in
     let b = d .before .before in
     let e = eventOf (here b) in
     let s = stateHere (here b) in
     turn-falls _ (here b .loop .judging) (e .time) _ _ (b .before .if2 .left) (before d) (at-time _ e s (to-come b) _ (c .advance .ensures .0))
 
-loop-again-3 : tie.Need-loop-again-3 Inv-loop μ-loop
-loop-again-3 c =
+loop-again-2 : tie.Need-loop-again-2 Inv-loop μ-loop
+loop-again-2 c =
     let d = c .before .before .before .before in
     let b = d .before .before in
     carries _ (eventOf (here b)) _ (stateHere (here b)) (accepted b) (to-come b) _ (c .advance .ensures .0) _ _ _ (telling b) (before d) (c .advance .ensures .1) _ (b .before .if2 .left) (b .if3 .left)
@@ -410,7 +341,7 @@ loop-again-3 c =
 -- ---- no moment is due by the event's time
 
 not-due : (c : Rest) → dueBy (turn (still c) .moment) (turn (still c) .to) ≡ false
-not-due c = sym (c .before .due-by2 .ensures) ∙ c .if5 .left
+not-due c = sym (c .before .due-by .ensures) ∙ c .if4 .left
 
 none-due : (c : Rest) → dueBy (next (stateHere (here (still c)))) (eventOf (here (still c)) .time) ≡ false
 none-due c = ap (λ (m : ℕ). dueBy m (turn (still c) .to)) (sym (is-next (turn (still c)))) ∙ not-due c
@@ -448,14 +379,14 @@ finished : (c : Charged) (told : List ℕ) → told ≡ eventNumbers (stateGiven
     → Stage (stateGiven (entry (here (still (rest c))))) (eventAt c) (here (still (rest c)) .loop .status) r told true (here (still (rest c)) .loop .judging)
 finished c told m r g = let b = still (rest c) in finishes _ (eventAt c) _ (stateHere (here b)) (accepted b) (to-come b) (atTime c) (has-passed c) _ told m r g
 
-loop-less-4 : tie.Need-loop-less-4 Inv-loop μ-loop
-loop-less-4 c = let b = still (rest (c .before .before)) in turn-ends _ (here b .loop .judging) _ 0 (b .before .if2 .left)
+loop-less-3 : tie.Need-loop-less-3 Inv-loop μ-loop
+loop-less-3 c = let b = still (rest (c .before .before)) in turn-ends _ (here b .loop .judging) _ 0 (b .before .if2 .left)
 
-loop-again-4 : tie.Need-loop-again-4 Inv-loop μ-loop
-loop-again-4 c =
+loop-again-3 : tie.Need-loop-again-3 Inv-loop μ-loop
+loop-again-3 c =
     let b = c .before .before in
     let o = still (rest b) in
-    finished b _ (told-clock _ (eventAt b) (to-come o .accepted) _ _ (telling o) (none-due (rest b)) (c .if6 .taken)) (atTime b) (happened-none (atTime b) (eventAt b) (c .if6 .taken))
+    finished b _ (told-clock _ (eventAt b) (to-come o .accepted) _ _ (telling o) (none-due (rest b)) (c .if5 .taken)) (atTime b) (happened-none (atTime b) (eventAt b) (c .if5 .taken))
 
 -- ---- the thread that the event concerns
 
@@ -473,7 +404,7 @@ concerns c =
     let e = eventAt k in
     let o = arrives _ e (stateHere (here b)) (to-come b) (atTime k) (has-passed k) in
     let f = allowed _ e (stateHere (here b)) (to-come b) (atTime k) (has-passed k) in
-    let l : 0 < e .kind = omega (arith, c .before .before .if6 .left) in
+    let l : 0 < e .kind = omega (arith, c .before .before .if5 .left) in
     record {
       sound = o .sound;
       fields = o .fields;
@@ -492,82 +423,58 @@ mul-t c = omega (arith, small c)
 element-copy-out-t : tie.Need-element-copy-out-t Inv-loop μ-loop
 element-copy-out-t c = small c
 
--- ---- what its effect brings back
+-- ---- what it does
 
-own-back-requires : tie.Need-own-back-requires Inv-loop μ-loop
-own-back-requires c κs =
-    let k = c .before .before in
-    λ z l. change-requires (atTime (charged k)) (eventAt (charged k)) _ _ (concerns k) _ refl z l .0
-
-tell-back-requires : tie.Need-tell-back-requires Inv-loop μ-loop
-tell-back-requires c κs =
-    let k = c .before .before .before in
-    let b = charged k in
-    let o = still (rest b) in
-    let v = concerns k in (
-      small k,
-      own-requires _ (eventAt b) (to-come o .accepted) _ _ (telling o) (none-due (rest b)) (atTime b) (has-passed b) refl (k .wide2 .result) (v .there ∙ v .who) (small k)
-          (state-out (atTime b) (v .sound)) (c .own-back .result) (c .own-back .ensures),
-    )
-
--- all that it tells
-tells : (c : tie.After-tell-back Inv-loop μ-loop)
-    → moreOf (c .before .before .before .before .wide2 .result) (backTally (c .before .own-back .result)) (here (still (rest (charged (c .before .before .before .before)))) .loop .told)
-    ≡ eventNumbers (stateGiven (entry (here (still (rest (charged (c .before .before .before .before))))))) (eventAt (charged (c .before .before .before .before)))
-tells c =
-    let k = c .before .before .before .before in
+happen-requires : tie.Need-happen-requires Inv-loop μ-loop
+happen-requires c κs =
+    let k = c .before .before .before .before .before in
     let b = charged k in
     let o = still (rest b) in
     let v = concerns k in
-    told-own _ (eventAt b) (to-come o .accepted) _ _ (telling o) (none-due (rest b)) (atTime b) (has-passed b) refl (k .wide2 .result) (v .there ∙ v .who) (small k) _ (c .before .own-back .ensures)
+    let s = atTime b in
+    let e = eventAt b in (
+      small k,
+      dues-length s (v .sound),
+      amounts-length s (v .sound),
+      (
+        v .some,
+        change-requires s e _ _ v _ refl,
+        set-requires s e _ _ v _ refl,
+        own-requires _ e (to-come o .accepted) _ _ (telling o) (none-due (rest b)) s (has-passed b) refl (k .wide2 .result) (v .there ∙ v .who) (small k) (state-out s (v .sound)) _ refl,
+      ),
+    )
 
-pending-at-requires : tie.Need-pending-at-requires Inv-loop μ-loop
-pending-at-requires c κs =
-    let k = c .before .before .before .before .before .before .before .before in
-    let a = concerns k .sound in (small k, dues-length (atTime (charged k)) a, amounts-length (atTime (charged k)) a)
+mul-u : tie.Need-mul-u Inv-loop μ-loop
+mul-u c = omega (arith, small (named (c .before)))
 
-change-of-requires : tie.Need-change-of-requires Inv-loop μ-loop
-change-of-requires c κs =
-    let k = named c in
-    let s = atTime (charged k) in
-    let e = eventAt (charged k) in
-    (concerns k .some, change-requires s e _ _ (concerns k) _ (c .pending-at .ensures), set-requires s e _ _ (concerns k) _ (c .pending-at .ensures))
-
--- ---- its change
-
-served-requires : tie.Need-served-requires Inv-loop μ-loop
-served-requires c κs = tt
-
-mul-changed : tie.Need-mul-changed Inv-loop μ-loop
-mul-changed c = omega (arith, small (named (found c)))
-
-element-set-from-changed : tie.Need-element-set-from-changed Inv-loop μ-loop
-element-set-from-changed c = small (named (found c))
-
-element-write-s : tie.Need-element-write-s Inv-loop μ-loop
-element-write-s c = small (named (found c))
-
-write-pending-requires : tie.Need-write-pending-requires Inv-loop μ-loop
-write-pending-requires c κs =
-    let k = named (found (c .before .before)) in
-    let a = concerns k .sound in (small k, dues-length (atTime (charged k)) a, amounts-length (atTime (charged k)) a)
+element-set-from-u : tie.Need-element-set-from-u Inv-loop μ-loop
+element-set-from-u c = small (named (c .before))
 
 shift-requires : tie.Need-shift-requires Inv-loop μ-loop
 shift-requires c κs =
-    let f = found (c .before .before .before .before) in
-    let k = named f in
-    laws.shift-requires (atTime (charged k)) (eventAt (charged k)) _ _ (concerns k) _ (f .pending-at .ensures) _ (c .before .before .before .before .before .before .before .before .change-of .ensures)
+    let h = c .before .before in
+    let k = named h in
+    laws.shift-requires (atTime (charged k)) (eventAt (charged k)) _ _ (concerns k) _ refl _ refl _ (h .happen .ensures .0)
 
-loop-less-5 : tie.Need-loop-less-5 Inv-loop μ-loop
-loop-less-5 c = let b = still (rest (charged (named (found (c .before .before .before .before .before))))) in turn-ends _ (here b .loop .judging) _ 0 (b .before .if2 .left)
+-- all that it tells
+tells : (c : Named)
+    → moreOf (c .wide2 .result) (backTally (ownBack (eventAt (charged c) .kind) (eventAt (charged c) .time) (threadAt (atTime (charged c)) (c .wide2 .result)))) (here (still (rest (charged c))) .loop .told)
+    ≡ eventNumbers (stateGiven (entry (here (still (rest (charged c)))))) (eventAt (charged c))
+tells c =
+    let b = charged c in
+    let o = still (rest b) in
+    let v = concerns c in
+    told-own _ (eventAt b) (to-come o .accepted) _ _ (telling o) (none-due (rest b)) (atTime b) (has-passed b) refl (c .wide2 .result) (v .there ∙ v .who) (small c) _ refl
 
-loop-again-5 : tie.Need-loop-again-5 Inv-loop μ-loop
-loop-again-5 c =
-    let w = c .before .before in
-    let p = w .before .before .before in
-    let k = named (found p) in
-    finished (charged k) _ (hears (found p) .tell-back .ensures ∙ tells (hears (found p))) _
-    (change-is (atTime (charged k)) (eventAt (charged k)) _ _ (concerns k) _ (found p .pending-at .ensures) _ (p .before .before .before .before .change-of .ensures) _ (p .served .ensures) _ _ _ _ (w .write-pending .ensures .0) (w .write-pending .ensures .1) (c .shift .ensures .0) (c .shift .ensures .1))
+loop-less-4 : tie.Need-loop-less-4 Inv-loop μ-loop
+loop-less-4 c = let b = still (rest (charged (named (c .before .before .before)))) in turn-ends _ (here b .loop .judging) _ 0 (b .before .if2 .left)
+
+loop-again-4 : tie.Need-loop-again-4 Inv-loop μ-loop
+loop-again-4 c =
+    let h = c .before .before .before in
+    let k = named h in
+    finished (charged k) _ (h .happen .ensures .1 .1 ∙ tells k) _
+    (change-is (atTime (charged k)) (eventAt (charged k)) _ _ (concerns k) _ refl _ refl _ (h .happen .ensures .0) _ _ _ (h .happen .ensures .1 .0) _ _ (c .shift .ensures .0) (c .shift .ensures .1))
 
 pub answer-event-spec : {M : Type 1} → statement M
 answer-event-spec =
@@ -595,40 +502,27 @@ answer-event-spec =
     running-requires
     answer-of-requires
     returns-2
-    due-by-requires
-    status-then-requires
+    status-at-requires
     loop-less
     loop-again
-    mul-worker
-    element-copy-out-worker
-    element-copy-out-status-now
-    status-now-requires
+    due-by-requires
+    advance-requires
     loop-less-2
     loop-again-2
-    due-by-requires-2
-    advance-requires
-    loop-less-3
-    loop-again-3
     sub-k
     charged-thread-requires
     mul-charged
     element-set-from-charged
     charged-idle-requires
-    loop-less-4
-    loop-again-4
+    loop-less-3
+    loop-again-3
     concerned-requires
     wide-requires-2
     mul-t
     element-copy-out-t
-    own-back-requires
-    tell-back-requires
-    pending-at-requires
-    change-of-requires
-    served-requires
-    mul-changed
-    element-set-from-changed
-    element-write-s
-    write-pending-requires
+    happen-requires
+    mul-u
+    element-set-from-u
     shift-requires
-    loop-less-5
-    loop-again-5)
+    loop-less-4
+    loop-again-4)
