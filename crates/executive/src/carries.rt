@@ -3,11 +3,13 @@ ghost use mathlib.Core.Path.{_≡_};
 ghost use mathlib.Core.Bool.{true, false, cond, _&&_};
 ghost use Prim.Native.Nat.{_+_, _-_, _≤_, _<_, _^_};
 ghost use lib.Dec.{ltb, eqb};
+ghost use lib.ListN.{getD};
 ghost use Rattle.records.specs.Ranges.{mostThreads, lastTime, longestStep};
 ghost use Rattle.ready.specs.Lists.{headOf};
 ghost use Rattle.ready.specs.Word.{highestOf};
 ghost use Rattle.ticks.specs.Running.{next};
 ghost use Rattle.moments.specs.Moments.{passed};
+ghost use Rattle.state.specs.State.{threadAt};
 ghost use Rattle.state.specs.Sound.{soundState};
 ghost use Rattle.state.specs.Updates.{whole};
 ghost use Rattle.executive.specs.Private.{carryStatus, carryStatusAt, ranUpTo};
@@ -62,40 +64,34 @@ fn status_now(e: Event, t: Thread, count: u8, level: u8, head: u8, now: u64) -> 
     carry_status(e, t, count)
 }
 
-// The same where one does: a copy of the state is brought to the event's time.
-fn status_then<'a>(s: Core, dues: &'a Slots, amounts: &'a Slots, e: Event) -> u8
-    requires { ⌜ (soundState (whole s (now dues) (now amounts)) ≡ true) × (s .now ≤ e .time) × (e .time ≤ lastTime) × (e .time ≤ s .now + longestStep)
-        × (e .thread < mostThreads) ⌝ }
-    ensures { λ r. ⌜ r ≡ carryStatusAt (passed (whole s (now (dues .entry)) (now (amounts .entry))) (e .time)) e ⌝ }
-{
-    let mut dues_then = *dues;
-    let mut amounts_then = *amounts;
-    let mut told = [0u64; NUMBERS];
-    let then = moments::advance(s, &mut dues_then, &mut amounts_then, &mut told, e.time);
-    let i = base::wide(e.thread);
-    let t = then.threads[i];
-    carry_status(e, t, then.counts[i])
-}
-
-// The same for any: the highest list, its head and the next moment are what they are for the state.
+// The same for any: t is the thread that the event names, with so many entries pending; the highest list, its head and the next moment
+// are what they are for the state. Where a moment falls up to the event, a copy of the state is brought to its time; nothing else is
+// read of the core by an index, so that it is copied there alone.
 pub(super) fn status_at<'a>(
     s: Core,
     dues: &'a Slots,
     amounts: &'a Slots,
     e: Event,
+    t: Thread,
+    count: u8,
     level: u8,
     head: u8,
     moment: u64,
 ) -> u8
     requires { ⌜ (soundState (whole s (now dues) (now amounts)) ≡ true) × (s .now ≤ e .time) × (e .time ≤ lastTime) × (e .time ≤ s .now + longestStep)
-        × (e .thread < mostThreads) × (level ≡ highestOf (s .word)) × (head ≡ cond (eqb level 0) 0 (headOf level (s .lists)))
+        × (e .thread < mostThreads) × (t ≡ threadAt (whole s (now dues) (now amounts)) (e .thread)) × (count ≡ getD (s .counts) (e .thread) 0)
+        × (level ≡ highestOf (s .word)) × (head ≡ cond (eqb level 0) 0 (headOf level (s .lists)))
         × (moment ≡ next (whole s (now dues) (now amounts))) ⌝ }
     ensures { λ r. ⌜ r ≡ carryStatusAt (passed (whole s (now (dues .entry)) (now (amounts .entry))) (e .time)) e ⌝ }
 {
     if moment_order::due_by(moment, e.time) {
-        return status_then(s, dues, amounts, e);
+        let mut dues_then = *dues;
+        let mut amounts_then = *amounts;
+        let mut told = [0u64; NUMBERS];
+        let then = moments::advance(s, &mut dues_then, &mut amounts_then, &mut told, e.time);
+        let i = base::wide(e.thread);
+        let u = then.threads[i];
+        return carry_status(e, u, then.counts[i]);
     }
-    let i = base::wide(e.thread);
-    let t = s.threads[i];
-    status_now(e, t, s.counts[i], level, head, s.now)
+    status_now(e, t, count, level, head, s.now)
 }

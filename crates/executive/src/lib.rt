@@ -106,7 +106,8 @@ fn answer_event(
     ) {
         return answers::nothing_runs(base::NOT_SOUND, s);
     }
-    let named = s.threads[parts::index(e.thread)];
+    let at = parts::index(e.thread);
+    let named = s.threads[at];
     let mut status = statuses::status_of(header.n, s.now, s.word, 0 < named.blocked, e);
     let mut done = status != 0;
     let mut judging = carries::carries_over(e.kind, named.parameters.policy, e.parameters.policy);
@@ -118,12 +119,12 @@ fn answer_event(
         let runner = s.threads[i];
         let next = next_moment::next_moment(s.now, level, runner, &s.counts, dues, n);
         if done {
-            let runs = running::running(s.word, &s.lists);
-            return answers::answer_of(status, runs, next, s);
+            return answers::answer_of(status, running::running(s.word, &s.lists), next, s);
         }
         if judging {
             judging = false;
-            status = carries::status_at(s, dues, amounts, e, level, h, next);
+            let worker = s.threads[at];
+            status = carries::status_at(s, dues, amounts, e, worker, s.counts[at], level, h, next);
             done = status != 0;
             continue;
         }

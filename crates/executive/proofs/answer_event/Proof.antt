@@ -8,7 +8,7 @@ use native.Mathlib.Omega.{arith}
 use lib.Dec.{eqb}
 use borrow.Author.Tests.{not-true, not-false}
 use mathlib.Core.List.{List}
-use lib.ListN.{replicate, set}
+use lib.ListN.{getD, replicate, set}
 use Rattle.base.proofs.TestLaws.{tests}
 use Rattle.records.specs.declared.Event.{Event}
 use Rattle.passing.specs.Time.{dueBy}
@@ -39,11 +39,11 @@ use Rattle.executive.proofs.answer_event.Statement.{statement}
 use Rattle.executive.proofs.answer_event.Tie as tie
 
 abbrev Inv-loop : tie.InvT-loop
-Inv-loop dues₀ amounts₀ told₀ e known s₀ status₀ done₀ judging₀ dues amounts told s status done judging =
+Inv-loop dues₀ amounts₀ told₀ e known s₀ at status₀ done₀ judging₀ dues amounts told s status done judging =
     Stage (whole s₀ dues₀ amounts₀) e status (whole s dues amounts) told done judging
 
 abbrev μ-loop : tie.MeasureT-loop
-μ-loop dues₀ amounts₀ told₀ e known s₀ status₀ done₀ judging₀ dues amounts told s status done judging = weight done judging (e .time - s .now)
+μ-loop dues₀ amounts₀ told₀ e known s₀ at status₀ done₀ judging₀ dues amounts told s status done judging = weight done judging (e .time - s .now)
 
 -- ---- the stages, each with the way to an earlier one
 
@@ -274,26 +274,45 @@ settled : (c : Judging) (k : ℕ) → k ≡ carryStatusAt (passed (stateHere (tu
     → Stage (stateGiven (entry (turned (c .before)))) (eventOf (turned (c .before))) k (stateHere (turned (c .before))) (turned (c .before) .loop .told) (not (eqb k 0)) false
 settled c k f = judged _ _ (eventOf (turned (c .before))) _ (untouched c) k f
 
+-- the thread stands where its number says
+place-small : (c : Judging) → placed (turned (c .before) .before) .index .result < 32
+place-small c = placed (turned (c .before) .before) .index .ensures .0
+
+stands : (c : Judging) → placed (turned (c .before) .before) .index .result ≡ eventOf (turned (c .before)) .thread
+stands c = placed (turned (c .before) .before) .index .ensures .1 (judging c .there)
+
+mul-worker : tie.Need-mul-worker Inv-loop μ-loop
+mul-worker c = omega (arith, place-small c)
+
+element-copy-out-worker : tie.Need-element-copy-out-worker Inv-loop μ-loop
+element-copy-out-worker c = place-small c
+
+element-copy-out-status-at : tie.Need-element-copy-out-status-at Inv-loop μ-loop
+element-copy-out-status-at c = place-small (c .before .before .before)
+
 status-at-requires : tie.Need-status-at-requires Inv-loop μ-loop
 status-at-requires c κs =
-    let d = c .before .before in
+    let d = c .before .before .before .before in
     let w = topped (d .before .before) in
+    let s = stateHere (turned (d .before)) in
     let j = judging d in (
       j .sound,
       j .by,
       j .top,
       j .near,
       j .there,
+      ap (threadAt s) (stands d),
+      ap (λ (i : ℕ). getD (s .counts) i 0) (stands d),
       w .before .before .before .before .highest .ensures,
       w .before .head-at .ensures,
       is-next (turnAt (d .before) (j .top) (j .by)),
     )
 
 loop-less : tie.Need-loop-less Inv-loop μ-loop
-loop-less c = let d = c .before .before .before in turn-judges _ _ (not (eqb (c .status-at .result) 0)) _ (d .before .if2 .left) (d .if3 .taken)
+loop-less c = let d = c .before .before .before .before .before in turn-judges _ _ (not (eqb (c .status-at .result) 0)) _ (d .before .if2 .left) (d .if3 .taken)
 
 loop-again : tie.Need-loop-again Inv-loop μ-loop
-loop-again c = settled (c .before .before .before) _ (c .status-at .ensures)
+loop-again c = settled (c .before .before .before .before .before) _ (c .status-at .ensures)
 
 -- ---- the event is still to come
 
@@ -502,6 +521,9 @@ answer-event-spec =
     running-requires
     answer-of-requires
     returns-2
+    mul-worker
+    element-copy-out-worker
+    element-copy-out-status-at
     status-at-requires
     loop-less
     loop-again
