@@ -1,4 +1,5 @@
 -- `executive::carries::status_at` meets its contract.
+use borrow.Author.Needs.{needs}
 use Prim.Native.Nat.{ℕ, _+_, _-_, _≤_, _<_, _^_}
 use mathlib.Core.Bool.{false}
 use mathlib.Core.Path.{_≡_, refl, sym, ap, ap₂, _∙_, subst⁻¹}
@@ -30,7 +31,7 @@ abbrev given : tie.After-advance → tie.Start
 given c = c .before .before .before .before .before .before .before .before
 
 advance-requires : tie.Need-advance-requires
-advance-requires c κs = let p = c .before .before .before .before .before .before .before .pre in (p .0, p .1, p .2, p .3, refl)
+advance-requires c κs = search needs
 
 wide-requires : tie.Need-wide-requires
 wide-requires c κs = tt
