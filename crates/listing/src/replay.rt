@@ -30,27 +30,25 @@ struct Ended {
 fn put_events(
     out: &mut [u8],
     at: usize,
-    opened: Core,
+    mut s: Core,
     dues: &mut Slots,
     amounts: &mut Slots,
     file: &[u8],
-    first: usize,
+    mut offset: usize,
 ) -> Ended
-    requires { ⌜ (soundState (whole opened (now dues) (now amounts)) ≡ true) × (at + eventLinesMost ≤ length (now out)) ⌝ }
-    ensures { λ r. ⌜ Put (now (out .entry)) at (eventLines 0 (answersFrom (whole opened (now (dues .entry)) (now (amounts .entry))) (now (file .entry)) first mostEvents)) (now (out .exit)) (r .at) ⌝ }
-    ensures { λ r. ⌜ (whole (r .core) (now (dues .exit)) (now (amounts .exit)) ≡ endFrom (whole opened (now (dues .entry)) (now (amounts .entry))) (now (file .entry)) first mostEvents)
+    requires { ⌜ (soundState (whole s (now dues) (now amounts)) ≡ true) × (at + eventLinesMost ≤ length (now out)) ⌝ }
+    ensures { λ r. ⌜ Put (now (out .entry)) at (eventLines 0 (answersFrom (whole s (now (dues .entry)) (now (amounts .entry))) (now (file .entry)) offset mostEvents)) (now (out .exit)) (r .at) ⌝ }
+    ensures { λ r. ⌜ (whole (r .core) (now (dues .exit)) (now (amounts .exit)) ≡ endFrom (whole s (now (dues .entry)) (now (amounts .entry))) (now (file .entry)) offset mostEvents)
         × (soundState (whole (r .core) (now (dues .exit)) (now (amounts .exit))) ≡ true) × (r .at ≤ at + eventLinesMost) ⌝ }
 {
-    let mut s = opened;
-    let mut offset = first;
     let mut here = at;
     let mut i = 0;
     while i < EVENTS {
         let mut told = [0u64; NUMBERS];
         let step = replay_steps::step_at(s, dues, amounts, &mut told, file, offset);
+        s = step.answer.core;
         if !step.more {
-            let core = step.answer.core;
-            return Ended { at: here, core };
+            break;
         }
         here = lines::put_event(
             out,
@@ -60,7 +58,6 @@ fn put_events(
             step.answer.running,
             step.answer.next,
         );
-        s = step.answer.core;
         offset = step.offset;
         i += 1;
     }
@@ -93,12 +90,10 @@ pub(super) fn put_listing(out: &mut [u8], file: &[u8]) -> usize
     let mut dues = [0u64; SLOTS];
     let mut amounts = [0u64; SLOTS];
     let begun = replay_begin::begin(file, &mut dues, &mut amounts);
-    let status = begun.status;
-    if status != 0 {
-        return lines::put_labelled(out, 0, b"refused ", status as u64);
+    if begun.status != 0 {
+        return lines::put_labelled(out, 0, b"refused ", begun.status as u64);
     }
-    let a = begun.answer;
-    let opened = a.core;
+    let opened = begun.answer.core;
     let here = lines::put_header(out, 0);
     let ended = put_events(
         out,

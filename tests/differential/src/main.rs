@@ -23,7 +23,9 @@ mod windows;
 mod writes;
 
 use coverage::Coverage;
+use std::panic::resume_unwind;
 use std::process::exit;
+use std::thread::scope;
 
 /// A sort of cases: the option that counts them, how many the short run has, and how they are run
 /// with that count from a first seed. The options differ in their first letter, but for the last.
@@ -36,6 +38,9 @@ struct Sort {
 const fn sort(option: &'static str, short: u64, run: fn(u64, u64, &mut Coverage)) -> Sort {
     Sort { option, short, run }
 }
+
+/// So many sorts, the first ones, share their rows of what is covered.
+const SHARED: usize = 3;
 
 const SORTS: &[Sort] = &[
     // events after an opening, in sequences
@@ -73,16 +78,32 @@ const SORTS: &[Sort] = &[
 fn main() {
     let (counts, seed) = arguments();
     println!("seed {seed}");
-    let mut seen = Coverage::default();
-    for (sort, count) in SORTS.iter().zip(&counts) {
-        (sort.run)(*count, seed, &mut seen);
-    }
+    let seen = run_all(&counts, seed);
     let complete = covered(&counts, &seen);
     println!("no difference");
     if !complete {
         println!("TOO LITTLE COVERED: a situation never came up");
         exit(1)
     }
+}
+
+/// Runs all sorts, on both processors: those that share their rows in one thread, the others, which have rows of their own, beside
+/// it.
+fn run_all(counts: &[u64], seed: u64) -> Coverage {
+    let run = |from: usize, to: usize| {
+        let mut seen = Coverage::default();
+        for (sort, count) in SORTS[from..to].iter().zip(&counts[from..to]) {
+            (sort.run)(*count, seed, &mut seen);
+        }
+        seen
+    };
+    scope(|threads| {
+        let others = threads.spawn(|| run(SHARED, SORTS.len()));
+        let mut seen = run(0, SHARED);
+        let others = others.join().unwrap_or_else(|panic| resume_unwind(panic));
+        seen.others.extend(others.others);
+        seen
+    })
 }
 
 /// Prints what was covered. Where each sort that a group of situations needs had its short run's

@@ -18,7 +18,7 @@ use Rattle.listing.proofs.replay.put_events.Statement.{statement}
 use Rattle.listing.proofs.replay.put_events.Tie as tie
 
 abbrev Inv-loop : tie.InvT-loop
-Inv-loop out₀ at dues₀ amounts₀ file first s₀ offset₀ here₀ i₀ out dues amounts s offset here i =
+Inv-loop out₀ at s₀ dues₀ amounts₀ file offset₀ here₀ i₀ out s dues amounts offset here i =
     (i ≤ mostEvents)
     × (soundState (whole s dues amounts) ≡ true)
     × (length out ≡ length out₀)
@@ -27,7 +27,7 @@ Inv-loop out₀ at dues₀ amounts₀ file first s₀ offset₀ here₀ i₀ out
     × Printed out₀ out at here (eventLines i (answersFrom (whole s dues amounts) file offset (mostEvents - i))) (eventLines 0 (answersFrom (whole s₀ dues₀ amounts₀) file offset₀ mostEvents))
 
 abbrev μ-loop : tie.MeasureT-loop
-μ-loop out₀ at dues₀ amounts₀ file first s₀ offset₀ here₀ i₀ out dues amounts s offset here i = mostEvents - i
+μ-loop out₀ at s₀ dues₀ amounts₀ file offset₀ here₀ i₀ out s dues amounts offset here i = mostEvents - i
 
 -- a step is taken
 abbrev Taken : Type 0
@@ -51,24 +51,9 @@ loop-holds c = (omega arith, c .before .before .pre .0, refl, omega arith, refl,
 step-at-requires : tie.Need-step-at-requires Inv-loop μ-loop
 step-at-requires c κs = (c .before .before .before .before .loop .inv .1, refl)
 
-same-length : tie.Need-same-length Inv-loop μ-loop
-same-length c = turn (c .before .before .before) .loop .inv .2
-
-returns : tie.Need-returns Inv-loop μ-loop
-returns c =
-    let k = c .before .before .before in
-    let h = turn k in
-    let w = h .loop in
-    let a = started h .args in
-    let m = not-true _ (c .before .if1 .taken) in
-    let z = stops-here (stateHere h) (a .file .now) (w .offset) (mostEvents - w .i) (step k) (k .step-at .ensures .0) m in (
-      printed-all (w .inv .5) (line-none (stateHere h) (a .file .now) (w .offset) (mostEvents - w .i) (w .i) z),
-      (stays (stateHere h) (a .file .now) (w .offset) 0 (step k) (k .step-at .ensures .0) m ∙ sym (z .state) ∙ w .inv .4, k .step-at .ensures .1 .0, omega arith),
-    )
-
 put-event-requires : tie.Need-put-event-requires Inv-loop μ-loop
 put-event-requires c κs =
-    let h = turn (c .before .before .before) in
+    let h = turn (c .before .before .before .before) in
     (omega arith, omega (arith, started h .pre .1, h .loop .inv .2, h .loop .inv .3))
 
 add-i : tie.Need-add-i Inv-loop μ-loop
@@ -79,9 +64,9 @@ loop-less c = omega arith
 
 loop-again : tie.Need-loop-again Inv-loop μ-loop
 loop-again c =
-    let p = c .before .before .before in
+    let p = c .before .before in
     let n = p .before .before in
-    let t = n .before .before in
+    let t = n .before .before .before in
     let h = turn t in
     let w = h .loop in
     let a = started h .args in
@@ -95,11 +80,11 @@ loop-again c =
       printed-next _ _ (omega (arith, started h .pre .1, w .inv .3)) (w .inv .5) (rw k (line-next (stateHere h) (a .file .now) (w .offset) (mostEvents - (w .i + 1)) (w .i) (step t) g)) (p .put-event .ensures .0),
     )
 
-same-length-2 : tie.Need-same-length-2 Inv-loop μ-loop
-same-length-2 c = c .before .loop .inv .2
+same-length : tie.Need-same-length Inv-loop μ-loop
+same-length c = c .before .loop .inv .2
 
-returns-2 : tie.Need-returns-2 Inv-loop μ-loop
-returns-2 c =
+returns : tie.Need-returns Inv-loop μ-loop
+returns c =
     let h = c .before in
     let w = h .loop in
     let a = started h .args in
@@ -107,6 +92,21 @@ returns-2 c =
     let z = none-left (stateHere h) (a .file .now) (w .offset) in (
       printed-all (w .inv .5) (rw k (line-none (stateHere h) (a .file .now) (w .offset) 0 (w .i) z)),
       (sym (z .state) ∙ rw k at (w .inv .4), w .inv .1, omega arith),
+    )
+
+same-length-2 : tie.Need-same-length-2 Inv-loop μ-loop
+same-length-2 c = turn (c .before .before .before) .loop .inv .2
+
+returns-2 : tie.Need-returns-2 Inv-loop μ-loop
+returns-2 c =
+    let k = c .before .before .before in
+    let h = turn k in
+    let w = h .loop in
+    let a = started h .args in
+    let m = not-true _ (c .if1 .taken) in
+    let z = stops-here (stateHere h) (a .file .now) (w .offset) (mostEvents - w .i) (step k) (k .step-at .ensures .0) m in (
+      printed-all (w .inv .5) (line-none (stateHere h) (a .file .now) (w .offset) (mostEvents - w .i) (w .i) z),
+      (stays (stateHere h) (a .file .now) (w .offset) 0 (step k) (k .step-at .ensures .0) m ∙ sym (z .state) ∙ w .inv .4, k .step-at .ensures .1 .0, omega arith),
     )
 
 pub put-events-spec : {M : Type 1} → statement M
@@ -117,11 +117,11 @@ put-events-spec =
     μ-loop
     loop-holds
     step-at-requires
-    same-length
-    returns
     put-event-requires
     add-i
     loop-less
     loop-again
+    same-length
+    returns
     same-length-2
     returns-2)

@@ -26,14 +26,14 @@ abbrev headed : Lined → tie.After-put-header
 headed c = c .before .before .before .before .before .before
 
 abbrev opens : tie.After-put-header → tie.Else1
-opens c = c .before .before .before .before
+opens c = c .before .before .before
 
 returns : tie.Need-returns
 unfolding refusedLine
 returns c =
     let p = c .before .before in
-    let i = p .before .before .before in
-    let b = i .before in (
+    let i = p .before .before .before .before in
+    let b = i .before .before in (
       refusal-put (started b .args .file .now) (beginning b) (b .begin .ensures .0) (i .if1 .taken) (p .put-labelled .ensures .0),
       omega (arith, p .put-labelled .ensures .1),
     )
@@ -41,7 +41,7 @@ returns c =
 put-events-requires : tie.Need-put-events-requires
 put-events-requires c κs =
     let h = c .before .before .before .before .before in
-    let b = opens h .before in (
+    let b = opens h .before .before in (
       b .begin .ensures .1 (opens h .if1 .left),
       omega (arith, h .put-header .ensures .next, h .put-header .kept .0, started b .pre),
     )
@@ -50,7 +50,7 @@ put-threads-requires : tie.Need-put-threads-requires
 put-threads-requires c κs =
     let l = c .before .before .before .before in
     let h = headed l in
-    let b = opens h .before in (
+    let b = opens h .before .before in (
       few _ (l .put-events .ensures .1 .1),
       omega (arith, h .put-header .ensures .next, h .put-header .kept .0, l .put-events .kept .0, l .put-events .ensures .1 .2, started b .pre),
     )
@@ -60,7 +60,7 @@ returns-2 c =
     let t = c .before .before .put-threads in
     let l = c .before .before .before .before .before .before .before in
     let h = headed l in
-    let b = opens h .before in
+    let b = opens h .before .before in
     let a = started b in
     let d = h .put-header in
     let e = l .put-events in (
