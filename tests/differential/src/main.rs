@@ -28,7 +28,7 @@ use std::process::exit;
 use std::thread::scope;
 
 /// A sort of cases: the option that counts them, how many the short run has, and how they are run
-/// with that count from a first seed. The options differ in their first letter, but for the last.
+/// with that count from a first seed. The options differ in their first letter, but for `lines`.
 struct Sort {
     option: &'static str,
     short: u64,
@@ -40,7 +40,7 @@ const fn sort(option: &'static str, short: u64, run: fn(u64, u64, &mut Coverage)
 }
 
 /// So many sorts, the first ones, share their rows of what is covered.
-const SHARED: usize = 3;
+const SHARED: usize = 4;
 
 const SORTS: &[Sort] = &[
     // events after an opening, in sequences
@@ -49,6 +49,8 @@ const SORTS: &[Sort] = &[
     sort("files", 20_000, files::files),
     // single events on made-up states
     sort("singles", 30_000, events::singles),
+    // events of one account, carried over again and again
+    sort("accounts", 120_000, carry::accounts),
     // each byte as `blocked` of each place of a state
     sort("blocked", 6, blocked::blocked),
     // files written from any header, table and events
@@ -71,8 +73,6 @@ const SORTS: &[Sort] = &[
     sort("most", 4_000, most::most),
     // the lines of shares at the end of a replay
     sort("lines", 4_000, share_lines::share_lines),
-    // events of one account, carried over again and again
-    sort("accounts", 120_000, carry::accounts),
 ];
 
 fn main() {
