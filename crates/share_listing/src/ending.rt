@@ -16,24 +16,27 @@ use state::Core;
 use trace_records::EVENTS;
 
 // The state after the events from an offset on, without its slots.
-fn last_core(opened: Core, dues: &mut Slots, amounts: &mut Slots, file: &[u8], first: usize) -> Core
-    requires { ⌜ soundState (whole opened (now dues) (now amounts)) ≡ true ⌝ }
-    ensures { λ r. ⌜ (whole r (now (dues .exit)) (now (amounts .exit)) ≡ endFrom (whole opened (now (dues .entry)) (now (amounts .entry))) (now (file .entry)) first mostEvents)
+fn last_core(
+    mut s: Core,
+    dues: &mut Slots,
+    amounts: &mut Slots,
+    file: &[u8],
+    mut offset: usize,
+) -> Core
+    requires { ⌜ soundState (whole s (now dues) (now amounts)) ≡ true ⌝ }
+    ensures { λ r. ⌜ (whole r (now (dues .exit)) (now (amounts .exit)) ≡ endFrom (whole s (now (dues .entry)) (now (amounts .entry))) (now (file .entry)) offset mostEvents)
         × (soundState (whole r (now (dues .exit)) (now (amounts .exit))) ≡ true) ⌝ }
 {
-    let mut s = opened;
-    let mut offset = first;
     let mut left = EVENTS;
     while 0 < left {
         let mut told = [0u64; NUMBERS];
         let step = replay_steps::step_at(s, dues, amounts, &mut told, file, offset);
-        if !step.more {
-            let core = step.answer.core;
-            return core;
-        }
         s = step.answer.core;
         offset = step.offset;
         left -= 1;
+        if !step.more {
+            break;
+        }
     }
     s
 }
@@ -47,12 +50,10 @@ pub(super) fn put_listing(out: &mut [u8], file: &[u8]) -> usize
     let mut dues = [0u64; SLOTS];
     let mut amounts = [0u64; SLOTS];
     let begun = replay_begin::begin(file, &mut dues, &mut amounts);
-    let status = begun.status;
-    if status != 0 {
-        return refusal_line::put_refusal(out, status);
+    if begun.status != 0 {
+        return refusal_line::put_refusal(out, begun.status);
     }
-    let a = begun.answer;
-    let opened = a.core;
+    let opened = begun.answer.core;
     let last = last_core(opened, &mut dues, &mut amounts, file, begun.offset);
     share_lines::put_shares(out, 0, last, &dues, &amounts)
 }

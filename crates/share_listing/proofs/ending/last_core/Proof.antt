@@ -16,11 +16,11 @@ use Rattle.share_listing.proofs.ending.last_core.Lts as lts
 use Rattle.replay_steps.proofs.step_at.Reads as step-at-reads
 
 abbrev Inv-loop : tie.InvT-loop
-Inv-loop dues₀ amounts₀ file first s₀ offset₀ left₀ dues amounts s offset left =
+Inv-loop s₀ dues₀ amounts₀ file offset₀ left₀ s dues amounts offset left =
     (soundState (whole s dues amounts) ≡ true) × (endFrom (whole s dues amounts) file offset left ≡ endFrom (whole s₀ dues₀ amounts₀) file offset₀ left₀)
 
 abbrev μ-loop : tie.MeasureT-loop
-μ-loop dues₀ amounts₀ file first s₀ offset₀ left₀ dues amounts s offset left = left
+μ-loop s₀ dues₀ amounts₀ file offset₀ left₀ s dues amounts offset left = left
 
 -- a turn, and a step that is taken in it
 abbrev Here : Type 0
@@ -47,16 +47,6 @@ loop-holds c = (c .before .pre, refl)
 step-at-requires : tie.Need-step-at-requires Inv-loop μ-loop
 step-at-requires c κs = (c .before .before .before .before .loop .inv .0, refl)
 
-returns : tie.Need-returns Inv-loop μ-loop
-returns c =
-    let t = c .before .before .before in
-    let h = turn t in
-    let w = h .loop in
-    let a = started h .args in
-    let m = not-true _ (c .before .if1 .taken) in
-    let z = stops-here (stateHere h) (a .file .now) (w .offset) (w .left) (step t) (t .step-at .ensures .0) m in
-    (stays (stateHere h) (a .file .now) (w .offset) 0 (step t) (t .step-at .ensures .0) m ∙ sym (z .state) ∙ w .inv .1, t .step-at .ensures .1 .0)
-
 sub-left : tie.Need-sub-left Inv-loop μ-loop
 sub-left c = omega arith
 
@@ -70,17 +60,27 @@ loop-again c =
     let w = h .loop in
     let a = started h .args in
     let k : suc (w .left - 1) ≡ w .left = omega arith in
-    let g = goes-on (stateHere h) (a .file .now) (w .offset) (w .left - 1) (step t) (t .step-at .ensures .0) (not-false _ (c .before .if1 .left)) in
+    let g = goes-on (stateHere h) (a .file .now) (w .offset) (w .left - 1) (step t) (t .step-at .ensures .0) (not-false _ (c .if1 .left)) in
     (t .step-at .ensures .1 .0, sym (g .state) ∙ ap (λ (n : ℕ). endFrom (stateHere h) (a .file .now) (w .offset) n) k ∙ w .inv .1)
 
-returns-2 : tie.Need-returns-2 Inv-loop μ-loop
-returns-2 c =
+returns : tie.Need-returns Inv-loop μ-loop
+returns c =
     let h = c .before in
     let w = h .loop in
     let a = started h .args in
     let k : 0 ≡ w .left = omega arith in
     let z = none-left (stateHere h) (a .file .now) (w .offset) in
     (sym (z .state) ∙ ap (λ (n : ℕ). endFrom (stateHere h) (a .file .now) (w .offset) n) k ∙ w .inv .1, w .inv .0)
+
+returns-2 : tie.Need-returns-2 Inv-loop μ-loop
+returns-2 c =
+    let t = c .before .before .before in
+    let h = turn t in
+    let w = h .loop in
+    let a = started h .args in
+    let m = not-true _ (c .if1 .taken) in
+    let z = stops-here (stateHere h) (a .file .now) (w .offset) (w .left) (step t) (t .step-at .ensures .0) m in
+    (stays (stateHere h) (a .file .now) (w .offset) 0 (step t) (t .step-at .ensures .0) m ∙ sym (z .state) ∙ w .inv .1, t .step-at .ensures .1 .0)
 
 pub last-core-spec : {M : Type 1} → statement M
 last-core-spec =
@@ -90,8 +90,8 @@ last-core-spec =
     μ-loop
     loop-holds
     step-at-requires
-    returns
     sub-left
     loop-less
     loop-again
+    returns
     returns-2)

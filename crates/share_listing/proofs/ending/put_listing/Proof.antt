@@ -20,20 +20,20 @@ returns : tie.Need-returns
 returns c =
     let p = c .before .before .put-refusal in
     let i = c .before .before .before .before in
-    let b = i .before in
+    let b = i .before .before in
     (refusal-put (started b .args .file .now) (beginning b) (b .begin .ensures .0) (i .if1 .taken) (p .ensures .0), omega (arith, p .ensures .1))
 
 last-core-requires : tie.Need-last-core-requires
 last-core-requires c κs =
-    let i = c .before .before .before .before in
-    i .before .begin .ensures .1 (i .if1 .left)
+    let i = c .before .before .before in
+    i .before .before .begin .ensures .1 (i .if1 .left)
 
 returns-2 : tie.Need-returns-2
 returns-2 c =
     let p = c .before .before .put-shares in
     let l = c .before .before .before .before .before .before .last-core in
-    let i = c .before .before .before .before .before .before .before .before .before .before .before in
-    let b = i .before in (
+    let i = c .before .before .before .before .before .before .before .before .before .before in
+    let b = i .before .before in (
       shares-put (started b .args .file .now) (beginning b) (b .begin .ensures .0) (i .if1 .left) _ (l .ensures .0) (p .ensures .0),
       omega (arith, p .ensures .1),
     )
