@@ -67,18 +67,16 @@ fn leading(threads: [Thread; THREADS], n: usize) -> Leaders
     requires { ⌜ n ≤ mostThreads ⌝ }
     ensures { λ r. ⌜ r ≡ leadersOf threads n ⌝ }
 {
-    let first = threads[0];
     let mut most = Leader {
         thread: 0,
-        total: first.total,
+        total: threads[0].total,
     };
     let mut least = most;
     let mut i: usize = 0;
     while i < n {
-        let t = threads[i];
         let here = Leader {
             thread: i as u8,
-            total: t.total,
+            total: threads[i].total,
         };
         most = more(most, here);
         least = less(least, here);

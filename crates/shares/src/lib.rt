@@ -26,11 +26,8 @@ pub fn share_of<'a>(c: Core, dues: &'a Slots, amounts: &'a Slots, thread: u8) ->
     if c.header.n <= thread as u32 {
         return Share::Refused(base::WRONG_THREAD);
     }
-    let elapsed = c.now - c.header.start;
-    if elapsed == 0 {
+    if c.now == c.header.start {
         return Share::NoTime;
     }
-    let i = base::wide(thread);
-    let t = c.threads[i];
-    Share::Of(quotient(t.total, elapsed))
+    Share::Of(quotient(c.threads[thread as usize].total, c.now - c.header.start))
 }

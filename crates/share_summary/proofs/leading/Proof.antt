@@ -26,8 +26,8 @@ loop-holds c = (omega arith, refl, refl)
 
 loop-again : tie.Need-loop-again Inv-loop μ-loop
 loop-again c =
-    let w = c .before .before .before .before .loop in
-    let ts = c .before .before .before .before .before .before .args .t1 in
+    let w = c .before .before .before .loop in
+    let ts = c .before .before .before .before .args .t1 in
     let h = leaderAt ts (w .i) in (
       omega arith,
       c .before .more .ensures ∙ ap (λ (x : Leader). cond (ltb (x .total) (h .total)) h x) (w .inv .1) ∙ most-next ts (w .i) ∙ ap (λ (k : ℕ). leaderAt ts (mostOf ts k)) (sym (add-one (w .i))),
@@ -37,7 +37,7 @@ loop-again c =
 returns : tie.Need-returns Inv-loop μ-loop
 returns c =
     let w = c .before .loop in
-    let a = c .before .before .before .args in
+    let a = c .before .before .args in
     let z : w .i ≡ a .n = omega (arith, c .loop-test .left, w .inv .0) in
     λ j. record { most = (w .inv .1 ∙ ap (λ (k : ℕ). leaderAt (a .t1) (mostOf (a .t1) k)) z) j; least = (w .inv .2 ∙ ap (λ (k : ℕ). leaderAt (a .t1) (leastOf (a .t1) k)) z) j }
 

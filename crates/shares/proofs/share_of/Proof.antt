@@ -1,5 +1,4 @@
 -- `shares::share_of` meets its contract: the refusals in their order, no time, and the share.
-use Prim.Native.Nat.{ℕ}
 use mathlib.Core.Bool.{true}
 use mathlib.Core.Path.{_≡_, sym, ap, _∙_}
 use native.Mathlib.Omega.{arith}
@@ -9,9 +8,7 @@ use Rattle.state.specs.declared.State.{State}
 use Rattle.state.specs.Sound.{soundState}
 use Rattle.state.specs.Updates.{whole}
 use Rattle.shares.specs.declared.Share.the-variants as share
-use Rattle.quotient.specs.Quotient.{quotient}
-use Rattle.shares.specs.Shares.{elapsed, totalAt}
-use Rattle.shares.proofs.ShareLaws.{times, share-unsound, share-wrong, share-none, share-is}
+use Rattle.shares.proofs.ShareLaws.{Times, times, share-unsound, share-wrong, share-none, share-is}
 use Rattle.shares.proofs.share_of.Statement.{statement}
 use Rattle.shares.proofs.share_of.Tie as tie
 
@@ -36,35 +33,30 @@ returns-2 c =
     let s = begun (c .before .before) in
     sym (share-wrong (stateGiven s) (s .args .thread) (judged (c .before)) (c .if2 .taken))
 
-sub-elapsed : tie.Need-sub-elapsed
-sub-elapsed c = times _ 0 (judged (c .before)) .order
-
 returns-3 : tie.Need-returns-3
 returns-3 c =
     let e = c .before in
     let s = begun (e .before .before) in
-    sym (share-none (stateGiven s) (s .args .thread) (judged (e .before)) (e .if2 .left) (c .if3 .taken))
+    sym (share-none (stateGiven s) (s .args .thread) (judged (e .before)) (e .if2 .left) (omega (arith, c .if3 .taken)))
 
-element-copy-out-t : tie.Need-element-copy-out-t
-element-copy-out-t c =
-    let e = c .before .before in
-    let t = times _ 0 (judged (e .before)) in
-    omega (arith, c .wide .ensures, e .if2 .left, t .few)
+-- what is known where time has passed
+abbrev known : (c : tie.Else3) → Times (stateGiven (begun (c .before .before .before))) (begun (c .before .before .before) .args .thread)
+known c = times _ _ (judged (c .before .before))
+
+element-copy-out-quotient : tie.Need-element-copy-out-quotient
+element-copy-out-quotient c = omega (arith, c .before .if2 .left, known c .few)
 
 quotient-requires : tie.Need-quotient-requires
 quotient-requires c κs =
-    let e = c .before .before .before in
-    let t = times _ (c .before .wide .result) (judged (e .before)) in
+    let t = known c in
     (omega (arith, t .total, t .last), omega (arith, t .last))
 
 returns-4 : tie.Need-returns-4
 returns-4 c =
-    let w = c .before .before in
-    let e = w .before .before in
-    let s = begun (e .before .before) in
-    let x = stateGiven s in
-    ap share.Of (c .quotient .ensures ∙ ap (λ (i : ℕ). quotient (totalAt (x .threads) i) (elapsed x)) (w .wide .ensures))
-    ∙ sym (share-is x (s .args .thread) (judged (e .before)) (e .if2 .left) (w .before .if3 .left))
+    let e = c .before in
+    let s = begun (e .before .before .before) in
+    ap share.Of (c .quotient .ensures)
+    ∙ sym (share-is (stateGiven s) (s .args .thread) (judged (e .before .before)) (e .before .if2 .left) (λ z. e .if3 .left (omega (arith, z, known e .order))))
 
 pub share-of-spec : {M : Type 1} → statement M
 share-of-spec =
@@ -75,10 +67,9 @@ share-of-spec =
     (λ c κs. search needs)
     returns
     returns-2
-    sub-elapsed
     returns-3
-    (λ c κs. search needs)
     (λ c. search needs)
-    element-copy-out-t
+    element-copy-out-quotient
+    (λ c. known c .order)
     quotient-requires
     returns-4)
