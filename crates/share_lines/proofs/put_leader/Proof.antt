@@ -9,7 +9,7 @@ use Rattle.share_lines.proofs.put_leader.Statement.{statement}
 use Rattle.share_lines.proofs.put_leader.Tie as tie
 use Rattle.share_lines.proofs.put_leader.Reads as reads
 use Rattle.share_lines.proofs.put_leader.Lts as lts
-use Rattle.share_lines.proofs.put_end.Reads as put-end-reads
+use Rattle.share_lines.proofs.put_digits.Reads as put-digits-reads
 use Rattle.text_fields.proofs.put_field.Reads as put-field-reads
 use Rattle.text.proofs.put_word.Reads as put-word-reads
 
@@ -22,8 +22,8 @@ put-field-requires c κs =
     let s = c .before .before .before .before .before .before .before in
     omega (arith, s .pre .1, s .pre .2, w .ensures .next, w .kept .0, byte-length space (s .fits .thread))
 
-put-end-requires : tie.Need-put-end-requires
-put-end-requires c κs =
+put-digits-requires : tie.Need-put-digits-requires
+put-digits-requires c κs =
     let f = c .before .before .before .put-field in
     let w = c .before .before .before .before .before .before .before .put-word in
     let s = c .before .before .before .before .before .before .before .before .before .before .before in
@@ -35,7 +35,7 @@ same-length c = search needs
 returns : tie.Need-returns
 unfolding leaderLine
 returns c =
-    let e = c .before .before .put-end in
+    let e = c .before .before .put-digits in
     let f = c .before .before .before .before .before .before .put-field in
     let w = c .before .before .before .before .before .before .before .before .before .before .put-word in
     let s = c .before .before .before .before .before .before .before .before .before .before .before .before .before .before in
@@ -46,4 +46,4 @@ returns c =
 
 pub put-leader-spec : {M : Type 1} → statement M
 put-leader-spec =
-    tie.close (tie.spec put-word-requires put-field-requires put-end-requires same-length returns)
+    tie.close (tie.spec put-word-requires put-field-requires put-digits-requires same-length returns)

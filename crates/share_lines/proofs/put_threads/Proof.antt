@@ -20,11 +20,11 @@ use Rattle.share_lines.proofs.put_line.Reads as put-line-reads
 use Rattle.shares.proofs.share_of.Reads as share-of-reads
 
 abbrev Inv-loop : tie.InvT-loop
-Inv-loop out₀ at dues amounts c n elapsed here₀ i₀ out here i =
-    (i ≤ n) × (length out ≡ length out₀) × (here ≤ at + shareLineMost * i) × Put out₀ at (shareLines (whole c dues amounts) i) out here
+Inv-loop out₀ at₀ dues amounts c n elapsed i₀ out at i =
+    (i ≤ n) × (length out ≡ length out₀) × (at ≤ at₀ + shareLineMost * i) × Put out₀ at₀ (shareLines (whole c dues amounts) i) out at
 
 abbrev μ-loop : tie.MeasureT-loop
-μ-loop out₀ at dues amounts c n elapsed here₀ i₀ out here i = n - i
+μ-loop out₀ at₀ dues amounts c n elapsed i₀ out at i = n - i
 
 -- the state that is given is sound
 abbrev stateGiven : tie.Start Inv-loop μ-loop → State
@@ -48,19 +48,20 @@ cast-share-of c = omega (arith, sound-times (c .before .before .before) .few)
 share-of-requires : tie.Need-share-of-requires Inv-loop μ-loop
 share-of-requires c κs = search needs
 
-mul-t : tie.Need-mul-t Inv-loop μ-loop
-mul-t c = omega (arith, sound-times (c .before .before .before .before) .few)
+mul-put-line : tie.Need-mul-put-line Inv-loop μ-loop
+mul-put-line c = omega (arith, sound-times (c .before .before .before .before .before) .few)
 
-element-copy-out-t : tie.Need-element-copy-out-t Inv-loop μ-loop
-element-copy-out-t c = omega (arith, sound-times (c .before .before .before .before) .few)
+element-copy-out-put-line : tie.Need-element-copy-out-put-line Inv-loop μ-loop
+element-copy-out-put-line c = omega (arith, sound-times (c .before .before .before .before .before) .few)
 
 put-line-requires : tie.Need-put-line-requires Inv-loop μ-loop
 put-line-requires c κs =
-    let s = c .before .before .before .before .before .before in
-    let w = c .before .before .before .before .loop in
-    let x = c .before .before .share-of in (
-      share-shown-as (stateGiven s) (s .pre .0) (w .i) (c .before .before .before .loop-test .taken) (x .result) (x .ensures),
-      omega (arith, s .pre .1, w .inv .1, w .inv .2, c .before .before .before .loop-test .taken, sound-times s .few),
+    let s = c .before .before .before .before .before in
+    let w = c .before .before .before .loop in
+    let k = c .before .before .loop-test .taken in
+    let x = c .before .share-of in (
+      share-shown-as (stateGiven s) (s .pre .0) (w .i) k (x .result) (x .ensures),
+      omega (arith, s .pre .1, w .inv .1, w .inv .2, k, sound-times s .few),
     )
 
 add-i : tie.Need-add-i Inv-loop μ-loop
@@ -72,13 +73,14 @@ loop-less c = omega arith
 loop-again : tie.Need-loop-again Inv-loop μ-loop
 loop-again c =
     let p = c .before .before .put-line in
-    let x = c .before .before .before .before .before .share-of in
-    let w = c .before .before .before .before .before .before .before .loop in
-    let s = c .before .before .before .before .before .before .before .before .before in (
+    let x = c .before .before .before .before .share-of in
+    let k = c .before .before .before .before .before .loop-test .taken in
+    let w = c .before .before .before .before .before .before .loop in
+    let s = c .before .before .before .before .before .before .before .before in (
       omega arith,
       p .kept .0 ∙ w .inv .1,
       omega (arith, w .inv .2, p .ensures .1),
-      lines-next (stateGiven s) (w .i) (x .result) (omega (arith, s .pre .1, w .inv .2, c .before .before .before .before .before .before .loop-test .taken, sound-times s .few)) (w .inv .3) (x .ensures) (p .ensures .0),
+      lines-next (stateGiven s) (w .i) (x .result) (omega (arith, s .pre .1, w .inv .2, k, sound-times s .few)) (w .inv .3) (x .ensures) (p .ensures .0),
     )
 
 same-length : tie.Need-same-length Inv-loop μ-loop
@@ -102,8 +104,8 @@ put-threads-spec =
     loop-holds
     cast-share-of
     share-of-requires
-    mul-t
-    element-copy-out-t
+    mul-put-line
+    element-copy-out-put-line
     put-line-requires
     add-i
     loop-less
