@@ -31,11 +31,11 @@ pub struct SummaryReply {
     pub smallest: f64,
 }
 
-// A share's answer in numbers.
-fn share_reply(x: Share) -> ShareReply
-    ensures { λ r. ⌜ r ≡ shareReply x ⌝ }
+// The share of a thread in numbers, for a core by value.
+fn share_numbers<'a>(c: Core, dues: &'a Slots, amounts: &'a Slots, thread: u8) -> ShareReply
+    ensures { λ r. ⌜ r ≡ shareReply (shareOf (whole c (now (dues .entry)) (now (amounts .entry))) thread) ⌝ }
 {
-    match x {
+    match shares::share_of(c, dues, amounts, thread) {
         Share::Of(share) => ShareReply {
             form: 0,
             status: 0,
@@ -52,14 +52,6 @@ fn share_reply(x: Share) -> ShareReply
             share: 0.0,
         },
     }
-}
-
-// The share of a thread in numbers, for a core by value.
-fn share_numbers<'a>(c: Core, dues: &'a Slots, amounts: &'a Slots, thread: u8) -> ShareReply
-    ensures { λ r. ⌜ r ≡ shareReply (shareOf (whole c (now (dues .entry)) (now (amounts .entry))) thread) ⌝ }
-{
-    let x = shares::share_of(c, dues, amounts, thread);
-    share_reply(x)
 }
 
 // The share of a thread of a lent state.
@@ -89,11 +81,11 @@ fn no_summary(form: u8, status: u8) -> SummaryReply
     }
 }
 
-// A summary's answer in numbers.
-fn summary_reply(x: Summarized) -> SummaryReply
-    ensures { λ r. ⌜ r ≡ summaryReply x ⌝ }
+// The summary in numbers, for a core by value.
+fn summary_numbers<'a>(c: Core, dues: &'a Slots, amounts: &'a Slots) -> SummaryReply
+    ensures { λ r. ⌜ r ≡ summaryReply (summarizedOf (whole c (now (dues .entry)) (now (amounts .entry)))) ⌝ }
 {
-    match x {
+    match share_summary::summary_of(c, dues, amounts) {
         Summarized::Of(s) => SummaryReply {
             form: 0,
             status: 0,
@@ -105,14 +97,6 @@ fn summary_reply(x: Summarized) -> SummaryReply
         Summarized::NoTime => no_summary(1, 0),
         Summarized::Refused(status) => no_summary(2, status),
     }
-}
-
-// The summary in numbers, for a core by value.
-fn summary_numbers<'a>(c: Core, dues: &'a Slots, amounts: &'a Slots) -> SummaryReply
-    ensures { λ r. ⌜ r ≡ summaryReply (summarizedOf (whole c (now (dues .entry)) (now (amounts .entry)))) ⌝ }
-{
-    let x = share_summary::summary_of(c, dues, amounts);
-    summary_reply(x)
 }
 
 // The largest and the smallest share of a lent state, and the thread of each.
