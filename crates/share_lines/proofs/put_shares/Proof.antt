@@ -1,10 +1,10 @@
 -- `share_lines::put_shares` meets its contract: the threads, and then the summary.
+use mathlib.Core.Path.{_∙_}
 use native.Mathlib.Omega.{arith}
 use Rattle.state.specs.declared.State.{State}
 use Rattle.state.specs.Updates.{whole}
 use Rattle.share_lines.proofs.ShownLaws.{summary-shown-as}
 use Rattle.share_lines.proofs.LineLaws.{shares-after}
-use borrow.Author.Needs.{needs}
 use Rattle.share_lines.proofs.put_shares.Statement.{statement}
 use Rattle.share_lines.proofs.put_shares.Tie as tie
 use Rattle.share_lines.proofs.put_shares.Reads as reads
@@ -18,10 +18,12 @@ abbrev stateGiven : tie.Start → State
 stateGiven s = whole (s .args .c) (s .args .dues .now) (s .args .amounts .now)
 
 put-threads-requires : tie.Need-put-threads-requires
-put-threads-requires c κs = search needs
+put-threads-requires c κs =
+    let s = c .before .before in
+    (s .pre .0, omega (arith, s .pre .1))
 
 summary-of-requires : tie.Need-summary-of-requires
-summary-of-requires c κs = search needs
+summary-of-requires c κs = tt
 
 put-summary-requires : tie.Need-put-summary-requires
 put-summary-requires c κs =
@@ -32,7 +34,7 @@ put-summary-requires c κs =
     )
 
 same-length : tie.Need-same-length
-same-length c = search needs
+same-length c = c .before .before .put-summary .kept .0 ∙ c .before .before .before .before .before .before .before .put-threads .kept .0
 
 returns : tie.Need-returns
 returns c =

@@ -2,7 +2,6 @@
 use Prim.Native.Nat.{ℕ, _+_, _-_, _*_, _≤_}
 use mathlib.Core.Path.{_≡_, refl, _∙_}
 use native.Mathlib.Omega.{arith}
-use borrow.Author.Needs.{needs}
 use lib.ListN.{length}
 use Rattle.state.specs.declared.State.{State}
 use Rattle.state.specs.Updates.{whole}
@@ -46,7 +45,7 @@ cast-share-of : tie.Need-cast-share-of Inv-loop μ-loop
 cast-share-of c = omega (arith, sound-times (c .before .before .before) .few)
 
 share-of-requires : tie.Need-share-of-requires Inv-loop μ-loop
-share-of-requires c κs = search needs
+share-of-requires c κs = tt
 
 mul-put-line : tie.Need-mul-put-line Inv-loop μ-loop
 mul-put-line c = omega (arith, sound-times (c .before .before .before .before .before) .few)
