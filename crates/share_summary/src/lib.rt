@@ -2,9 +2,7 @@
 //
 // Threads are compared by their totals, which are whole numbers: no float is compared.
 ghost use mathlib.Core.Path.{_≡_};
-ghost use mathlib.Core.Bool.{cond};
 ghost use Prim.Native.Nat.{_≤_};
-ghost use lib.Dec.{ltb};
 ghost use Rattle.records.specs.Ranges.{mostThreads};
 ghost use Rattle.state.specs.Updates.{whole};
 ghost use Rattle.share_summary.specs.Summaries.{summarizedOf};
@@ -42,26 +40,6 @@ struct Leaders {
     least: Leader,
 }
 
-// The second where it has more run time, else the first.
-fn more(a: Leader, b: Leader) -> Leader
-    ensures { λ r. ⌜ r ≡ cond (ltb (a .total) (b .total)) b a ⌝ }
-{
-    if a.total < b.total {
-        return b;
-    }
-    a
-}
-
-// The second where it has less run time, else the first.
-fn less(a: Leader, b: Leader) -> Leader
-    ensures { λ r. ⌜ r ≡ cond (ltb (b .total) (a .total)) b a ⌝ }
-{
-    if b.total < a.total {
-        return b;
-    }
-    a
-}
-
 // Of the first n threads those with the most and the least run time.
 fn leading(threads: [Thread; THREADS], n: usize) -> Leaders
     requires { ⌜ n ≤ mostThreads ⌝ }
@@ -78,8 +56,12 @@ fn leading(threads: [Thread; THREADS], n: usize) -> Leaders
             thread: i as u8,
             total: threads[i].total,
         };
-        most = more(most, here);
-        least = less(least, here);
+        if most.total < here.total {
+            most = here;
+        }
+        if here.total < least.total {
+            least = here;
+        }
         i = i + 1;
     }
     Leaders { most, least }

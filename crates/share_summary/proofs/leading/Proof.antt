@@ -1,11 +1,14 @@
 -- `share_summary::leading` meets its contract: of the threads so far the first with the most and the first with the least run time.
 use Prim.Native.Nat.{ℕ, _+_, _-_, _≤_}
 use mathlib.Core.Bool.{cond}
+use mathlib.Core.Logic.{inl, inr}
 use mathlib.Core.Path.{_≡_, refl, sym, ap, _∙_}
 use native.Mathlib.Numerals.{add-one}
 use native.Mathlib.Omega.{arith}
 use lib.Dec.{ltb}
 use borrow.Author.Needs.{needs}
+use borrow.Author.Tests.{lt-ltb, le-ltb}
+use Rattle.base.proofs.TestLaws.{cond-true, cond-false}
 use Rattle.share_summary.specs.declared.Leader.{Leader}
 use Rattle.share_summary.specs.Summaries.{mostOf, leastOf}
 use Rattle.share_summary.specs.Private.{leaderAt}
@@ -26,12 +29,24 @@ loop-holds c = (omega arith, refl, refl)
 
 loop-again : tie.Need-loop-again Inv-loop μ-loop
 loop-again c =
-    let w = c .before .before .before .loop in
-    let ts = c .before .before .before .before .args .t1 in
-    let h = leaderAt ts (w .i) in (
+    let m = c .before .before .before .if1 in
+    let l = c .if2 in
+    let w = c .before .before .before .before .before .before .before .loop in
+    let ts = c .before .before .before .before .before .before .before .before .args .t1 in
+    let h = leaderAt ts (w .i) in
+    let more : m .most ≡ cond (ltb (w .most .total) (h .total)) h (w .most) =
+    elim (m .came) [
+      | inl p ↦ p .1 ∙ sym (cond-true _ h (w .most) (lt-ltb _ _ (p .0 .taken)))
+      | inr p ↦ p .1 ∙ sym (cond-false _ h (w .most) (le-ltb _ _ (p .0 .left)))
+    ] in
+    let less : l .least ≡ cond (ltb (h .total) (w .least .total)) h (w .least) =
+    elim (l .came) [
+      | inl p ↦ p .1 ∙ sym (cond-true _ h (w .least) (lt-ltb _ _ (p .0 .taken)))
+      | inr p ↦ p .1 ∙ sym (cond-false _ h (w .least) (le-ltb _ _ (p .0 .left)))
+    ] in (
       omega arith,
-      c .before .more .ensures ∙ ap (λ (x : Leader). cond (ltb (x .total) (h .total)) h x) (w .inv .1) ∙ most-next ts (w .i) ∙ ap (λ (k : ℕ). leaderAt ts (mostOf ts k)) (sym (add-one (w .i))),
-      c .less .ensures ∙ ap (λ (x : Leader). cond (ltb (h .total) (x .total)) h x) (w .inv .2) ∙ least-next ts (w .i) ∙ ap (λ (k : ℕ). leaderAt ts (leastOf ts k)) (sym (add-one (w .i))),
+      more ∙ ap (λ (x : Leader). cond (ltb (x .total) (h .total)) h x) (w .inv .1) ∙ most-next ts (w .i) ∙ ap (λ (k : ℕ). leaderAt ts (mostOf ts k)) (sym (add-one (w .i))),
+      less ∙ ap (λ (x : Leader). cond (ltb (h .total) (x .total)) h x) (w .inv .2) ∙ least-next ts (w .i) ∙ ap (λ (k : ℕ). leaderAt ts (leastOf ts k)) (sym (add-one (w .i))),
     )
 
 returns : tie.Need-returns Inv-loop μ-loop
@@ -52,8 +67,6 @@ leading-spec =
     (λ c. search needs)
     (λ c. search needs)
     (λ c. search needs)
-    (λ c κs. search needs)
-    (λ c κs. search needs)
     (λ c. search needs)
     (λ c. search needs)
     loop-again
