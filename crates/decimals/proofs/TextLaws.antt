@@ -6,6 +6,7 @@ use mathlib.Core.Path.{_≡_, refl, sym, ap, _∙_, subst}
 use native.Mathlib.Omega.{arith}
 use lib.ListN.{length, length-append}
 use Rattle.text.specs.Decimal.{decimal}
+use Rattle.text.specs.Fields.{field}
 use Rattle.text.proofs.DecimalLaws.{digits-fit}
 use lib.Dec.{T}
 use lib.Ieee as Ieee
@@ -15,8 +16,8 @@ use Rattle.decimals.specs.declared.Decimals.{Decimals}
 use Rattle.decimals.specs.Decimals.{decimalsOf, Within, InUnit, none, Shown, nothing, something, pointed, textBy, floatText, longestText}
 use Rattle.decimals.proofs.BitsLaws.{number}
 
-pub none-after : (places digits : ℕ) → places ≡ 0 → pointed places digits ≡ decimal digits ++ (46 ∷ [])
-unfolding pointed
+pub none-after : (places digits : ℕ) → places ≡ 0 → pointed places digits ≡ field digits 46
+unfolding pointed field
 none-after zero digits e = refl
 none-after (suc p) digits e = absurd (omega arith)
 

@@ -118,8 +118,7 @@ fn put_pointed(out: &mut [u8], at: usize, places: u64, digits: u64) -> usize
     ensures { λ r. ⌜ Put (now (out .entry)) at (pointed places digits) (now (out .exit)) r ⌝ }
 {
     if places == 0 {
-        let here = text::put_number(out, at, digits);
-        return text::put_byte(out, here, b'.');
+        return text_fields::put_field(out, at, digits, b'.');
     }
     let here = put_pointed(out, at, places - 1, digits / 10);
     text::put_byte(out, here, b'0' + (digits % 10) as u8)
