@@ -11,40 +11,43 @@ use answers::Answer;
 use reports::NUMBERS;
 use rows::Slots;
 
-// The answer to the last of at most `count` events from an offset on, or the one that is given.
+// The answer to the last of at most `left` events from an offset on, or the one that is given. The core goes on in one local, apart from
+// the rest of the answer: an answer that is copied whole costs another copy of it at each event.
 fn last_answer(
     opened: Answer,
     dues: &mut Slots,
     amounts: &mut Slots,
     file: &[u8],
-    first: usize,
-    count: usize,
+    mut offset: usize,
+    mut left: usize,
 ) -> Answer
     requires { ⌜ soundState (whole (opened .core) (now dues) (now amounts)) ≡ true ⌝ }
     ensures { λ r. ⌜ answerOf r (now (dues .exit)) (now (amounts .exit)) ≡ lastOf (answerOf opened (now (dues .entry)) (now (amounts .entry)))
-        (answersFrom (whole (opened .core) (now (dues .entry)) (now (amounts .entry))) (now (file .entry)) first count) ⌝ }
+        (answersFrom (whole (opened .core) (now (dues .entry)) (now (amounts .entry))) (now (file .entry)) offset left) ⌝ }
 {
-    let mut a = opened;
-    let mut offset = first;
-    let mut left = count;
+    let mut s = opened.core;
+    let mut status = opened.status;
+    let mut running = opened.running;
+    let mut next = opened.next;
     while 0 < left {
         left -= 1;
         let mut told = [0u64; NUMBERS];
-        let c = a.core;
-        let step = replay_steps::step_at(c, dues, amounts, &mut told, file, offset);
+        let step = replay_steps::step_at(s, dues, amounts, &mut told, file, offset);
+        s = step.answer.core;
         if !step.more {
-            let core = step.answer.core;
-            return Answer {
-                status: a.status,
-                running: a.running,
-                next: a.next,
-                core,
-            };
+            break;
         }
         offset = step.offset;
-        a = step.answer;
+        status = step.answer.status;
+        running = step.answer.running;
+        next = step.answer.next;
     }
-    a
+    Answer {
+        status,
+        running,
+        next,
+        core: s,
+    }
 }
 
 // The answer to the last of a file's first `count` events, with the state after it; to the opening where there is none. The slots are
