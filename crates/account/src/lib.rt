@@ -73,5 +73,5 @@ pub fn wake(p: Parameters, a: Account, blocked: bool, now: u64) -> Outcome
     ensures { λ r. ⌜ r ≡ waking now blocked p a ⌝ }
 {
     let s = a.server;
-    outcome_of(effects::wake_effect(p, s, a.pending.count, blocked, now), a)
+    outcome_of(wake::wake_effect(p, s, a.pending.count, blocked, now), a)
 }

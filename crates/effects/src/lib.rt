@@ -1,4 +1,4 @@
-// What each rule of a sporadic server does, as an Effect: the limit, a block, a wake, and what comes back. No entries, no thread, no list.
+// What each rule of a sporadic server does, as an Effect: the limit, a block, and what comes back. No entries, no thread, no list.
 ghost use mathlib.Core.Path.{_≡_};
 ghost use mathlib.Core.Bool.{not, _&&_};
 ghost use Prim.Native.Nat.{_+_, _<_, _^_, min};
@@ -6,14 +6,12 @@ ghost use lib.Dec.{leb};
 ghost use Rattle.sporadic.specs.Rules.{
   replenished,
   dueOf,
-  activated,
   unchanged,
   scheduled,
   sent,
   raised,
   limitEffect,
   blockEffect,
-  wakeEffect,
   returnEffect,
 };
 use records::Parameters;
@@ -42,17 +40,6 @@ fn replenish(p: Parameters, s: Server, amount: u64) -> Server
         capacity: up_to(p.budget, s.capacity, amount),
         used: s.used,
         activation: s.activation,
-    }
-}
-
-// The activation time becomes now.
-fn activate(s: Server, now: u64) -> Server
-    ensures { λ r. ⌜ r ≡ activated now s ⌝ }
-{
-    Server {
-        capacity: s.capacity,
-        used: s.used,
-        activation: now,
     }
 }
 
@@ -133,7 +120,12 @@ fn raise(e: Effect, low: bool, x: Place, now: u64) -> Effect
 {
     if low {
         let s = e.server;
-        return send(e, x, activate(s, now));
+        let active = Server {
+            capacity: s.capacity,
+            used: s.used,
+            activation: now,
+        };
+        return send(e, x, active);
     }
     e
 }
@@ -164,20 +156,6 @@ pub fn block_effect(p: Parameters, s: Server, blocked: bool, now: u64) -> Effect
         return nothing(s);
     }
     schedule(p, s, now)
-}
-
-// A blocked thread with `count` entries wakes, at the upper or the low priority. Nothing where it is runnable already.
-pub fn wake_effect(p: Parameters, s: Server, count: u8, blocked: bool, now: u64) -> Effect
-    ensures { λ r. ⌜ r ≡ wakeEffect now blocked p count s ⌝ }
-{
-    let e = nothing(s);
-    if blocked {
-        if sporadic::at_upper(p, s.capacity, count) {
-            return send(e, Place::Upper, activate(s, now));
-        }
-        return send(e, Place::Low, s);
-    }
-    e
 }
 
 // Whether a thread is runnable and at its low priority.
