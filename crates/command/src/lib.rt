@@ -67,6 +67,23 @@ fn is_dash(name: &[u8]) -> bool {
     name[0] == b'-'
 }
 
+// The file of this name, to its end or until the buffer is full.
+fn read_file(name: &[u8], buffer: &mut [u8]) -> Input
+    ensures { λ r. ⌜ Counts (r .length) (now (buffer .exit)) ⌝ }
+{
+    let fd = os::open_read(name);
+    if fd < 0 {
+        os::fail(name);
+        return Input {
+            whole: false,
+            length: 0,
+        };
+    }
+    let read = read_named(fd, name, buffer);
+    libc::close(fd);
+    read
+}
+
 // Reads the input that argument i names, to its end or until the buffer is full: a file, or the standard input where it is `-`. What
 // can't be opened or read is named on the standard error.
 pub fn read_input(i: usize, buffer: &mut [u8]) -> Input
@@ -84,17 +101,7 @@ pub fn read_input(i: usize, buffer: &mut [u8]) -> Input
     if is_dash(&name[..length]) {
         return read_named(STDIN_FILENO, b"standard input", buffer);
     }
-    let fd = os::open_read(&name[..length]);
-    if fd < 0 {
-        os::fail(&name[..length]);
-        return Input {
-            whole: false,
-            length: 0,
-        };
-    }
-    let read = read_named(fd, &name[..length], buffer);
-    libc::close(fd);
-    read
+    read_file(&name[..length], buffer)
 }
 
 // Says how the program ended. Where descriptor 3 is closed, nobody asked.
