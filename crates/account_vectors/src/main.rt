@@ -152,16 +152,16 @@ fn due(p: Parameters, a: Account, blocked: bool, now: u64) -> Account {
 fn replay() {
     title(b"replay");
     let p = sporadic(10, 40, 2);
-    let a = account_making::fresh(p, 0);
-    let b = run(p, a, 6, 6);
-    let c = block(p, b, false, 6);
-    let d = wake(p, c, true, 15);
-    let e = run(p, d, 4, 19);
-    let f = limit(p, e, false, 19);
-    let g = due(p, f, false, 40);
-    let h = run(p, g, 6, 46);
-    let i = limit(p, h, false, 46);
-    io::print_decimal(STDOUT_FILENO, account_moments::first_due(i.pending));
+    let mut a = account_making::fresh(p, 0);
+    a = run(p, a, 6, 6);
+    a = block(p, a, false, 6);
+    a = wake(p, a, true, 15);
+    a = run(p, a, 4, 19);
+    a = limit(p, a, false, 19);
+    a = due(p, a, false, 40);
+    a = run(p, a, 6, 46);
+    a = limit(p, a, false, 46);
+    io::print_decimal(STDOUT_FILENO, account_moments::first_due(a.pending));
     end_line();
 }
 
@@ -169,41 +169,41 @@ fn replay() {
 fn one_pending() {
     title(b"max_repl 1");
     let p = sporadic(10, 40, 1);
-    let a = account_making::fresh(p, 0);
-    let b = run(p, a, 3, 3);
-    let c = block(p, b, false, 3);
-    let d = wake(p, c, true, 5);
-    let e = due(p, d, false, 39);
-    due(p, e, false, 40);
+    let mut a = account_making::fresh(p, 0);
+    a = run(p, a, 3, 3);
+    a = block(p, a, false, 3);
+    a = wake(p, a, true, 5);
+    a = due(p, a, false, 39);
+    due(p, a, false, 40);
 }
 
 // 01's row: the budget is the period.
 fn budget_is_period() {
     title(b"budget = period");
     let p = sporadic(10, 10, 2);
-    let a = account_making::fresh(p, 0);
-    let b = run(p, a, 10, 10);
-    limit(p, b, false, 10);
+    let mut a = account_making::fresh(p, 0);
+    a = run(p, a, 10, 10);
+    limit(p, a, false, 10);
 }
 
 // 01's row: preempted from 4 to 20.
 fn preempted() {
     title(b"preempted");
     let p = sporadic(10, 12, 2);
-    let a = account_making::fresh(p, 0);
-    let b = run(p, a, 4, 4);
-    let c = run(p, b, 6, 26);
-    limit(p, c, false, 26);
+    let mut a = account_making::fresh(p, 0);
+    a = run(p, a, 4, 4);
+    a = run(p, a, 6, 26);
+    limit(p, a, false, 26);
 }
 
 // 01's row: a wake and a block at one time schedule nothing.
 fn wake_and_block() {
     title(b"wake and block");
     let p = sporadic(10, 40, 2);
-    let a = account_making::fresh(p, 0);
-    let b = block(p, a, false, 0);
-    let c = wake(p, b, true, 7);
-    block(p, c, false, 7);
+    let mut a = account_making::fresh(p, 0);
+    a = block(p, a, false, 0);
+    a = wake(p, a, true, 7);
+    block(p, a, false, 7);
 }
 
 fn made(
@@ -234,10 +234,10 @@ fn made(
 fn at_once() {
     title(b"due one tick later is pending, due now comes back at once");
     let p = sporadic(10, 10, 2);
-    let a = account_making::fresh(p, 0);
-    let b = run(p, a, 4, 9);
-    block(p, b, false, 9);
-    block(p, b, false, 10);
+    let mut a = account_making::fresh(p, 0);
+    a = run(p, a, 4, 9);
+    block(p, a, false, 9);
+    block(p, a, false, 10);
 }
 
 fn returned() {
@@ -286,8 +286,23 @@ fn unconcerned_wake() {
     wake(p, made(4, 0, 15, 1, 40, 6, 0, 0), true, 20);
 }
 
-fn check(p: Parameters, a: Account, blocked: bool, start: u64, now: u64) {
-    if account_sound::sound(p, a, blocked, start, now) {
+// Whether the account of these numbers is sound, by a budget of 10 and a period of 40, from `start` on and at the time `now`.
+fn check(
+    max_repl: u8,
+    blocked: bool,
+    start: u64,
+    now: u64,
+    capacity: u64,
+    used: u64,
+    activation: u64,
+    count: u8,
+    d: u64,
+    x: u64,
+    e: u64,
+    y: u64,
+) {
+    let a = made(capacity, used, activation, count, d, x, e, y);
+    if account_sound::sound(sporadic(10, 40, max_repl), a, blocked, start, now) {
         io::write_all(STDOUT_FILENO, b"sound ");
     } else {
         io::write_all(STDOUT_FILENO, b"unsound ");
@@ -297,65 +312,42 @@ fn check(p: Parameters, a: Account, blocked: bool, start: u64, now: u64) {
 // Pairs on the two sides of each clause of soundness, a function for each clause.
 fn sum_sound() {
     title(b"sum is the budget");
-    let p = sporadic(10, 40, 2);
-    check(p, made(4, 0, 15, 1, 40, 6, 0, 0), false, 0, 15);
-    check(p, made(5, 0, 15, 1, 40, 6, 0, 0), false, 0, 15);
-    check(p, made(3, 0, 15, 1, 40, 6, 0, 0), false, 0, 15);
-    check(
-        p,
-        made(18446744073709551615, 11, 15, 0, 0, 0, 0, 0),
-        false,
-        0,
-        30,
-    );
-    check(
-        p,
-        made(10, 18446744073709551615, 15, 0, 0, 0, 0, 0),
-        false,
-        0,
-        30,
-    );
+    check(2, false, 0, 15, 4, 0, 15, 1, 40, 6, 0, 0);
+    check(2, false, 0, 15, 5, 0, 15, 1, 40, 6, 0, 0);
+    check(2, false, 0, 15, 3, 0, 15, 1, 40, 6, 0, 0);
+    check(2, false, 0, 30, 18446744073709551615, 11, 15, 0, 0, 0, 0, 0);
+    check(2, false, 0, 30, 10, 18446744073709551615, 15, 0, 0, 0, 0, 0);
     end_line();
 }
 
 fn used_sound() {
     title(b"U of a blocked or low thread is 0");
-    let p = sporadic(10, 40, 2);
-    check(p, made(2, 2, 15, 1, 40, 6, 0, 0), false, 0, 17);
-    check(p, made(2, 2, 15, 1, 40, 6, 0, 0), true, 0, 17);
-    check(p, made(1, 1, 15, 2, 40, 6, 41, 2), false, 0, 17);
-    check(p, made(0, 2, 15, 1, 40, 8, 0, 0), false, 0, 17);
+    check(2, false, 0, 17, 2, 2, 15, 1, 40, 6, 0, 0);
+    check(2, true, 0, 17, 2, 2, 15, 1, 40, 6, 0, 0);
+    check(2, false, 0, 17, 1, 1, 15, 2, 40, 6, 41, 2);
+    check(2, false, 0, 17, 0, 2, 15, 1, 40, 8, 0, 0);
     end_line();
 }
 
 fn elapsed_sound() {
     title(b"U is at most now - activation");
-    let p = sporadic(10, 40, 2);
-    check(p, made(2, 2, 15, 1, 40, 6, 0, 0), false, 0, 16);
-    check(
-        p,
-        made(2, 2, 18446744073709551615, 1, 40, 6, 0, 0),
-        false,
-        0,
-        17,
-    );
+    check(2, false, 0, 16, 2, 2, 15, 1, 40, 6, 0, 0);
+    check(2, false, 0, 17, 2, 2, 18446744073709551615, 1, 40, 6, 0, 0);
     end_line();
 }
 
 fn activation_sound() {
     title(b"activation from start to now");
-    let p = sporadic(10, 40, 2);
-    check(p, made(4, 0, 15, 1, 40, 6, 0, 0), false, 15, 15);
-    check(p, made(4, 0, 15, 1, 40, 6, 0, 0), false, 16, 16);
-    check(p, made(4, 0, 15, 1, 40, 6, 0, 0), false, 0, 14);
+    check(2, false, 15, 15, 4, 0, 15, 1, 40, 6, 0, 0);
+    check(2, false, 16, 16, 4, 0, 15, 1, 40, 6, 0, 0);
+    check(2, false, 0, 14, 4, 0, 15, 1, 40, 6, 0, 0);
     end_line();
 }
 
 fn dues_after_now() {
     title(b"dues after now");
-    let p = sporadic(10, 40, 2);
-    check(p, made(4, 0, 15, 1, 40, 6, 0, 0), true, 0, 39);
-    check(p, made(4, 0, 15, 1, 40, 6, 0, 0), true, 0, 40);
+    check(2, true, 0, 39, 4, 0, 15, 1, 40, 6, 0, 0);
+    check(2, true, 0, 40, 4, 0, 15, 1, 40, 6, 0, 0);
     end_line();
 }
 
@@ -363,69 +355,41 @@ fn dues_in_the_window() {
     title(
         b"dues at most 1,000,000,000 ticks after now, past now + period and past activation + period too",
     );
-    let p = sporadic(10, 40, 2);
-    check(p, made(4, 0, 10, 1, 55, 6, 0, 0), true, 0, 15);
-    check(p, made(4, 0, 10, 1, 50, 6, 0, 0), false, 0, 15);
-    check(p, made(4, 0, 10, 1, 1000000015, 6, 0, 0), true, 0, 15);
-    check(p, made(4, 0, 10, 1, 1000000016, 6, 0, 0), true, 0, 15);
-    check(
-        p,
-        made(4, 0, 10, 1, 18446744073709551615, 6, 0, 0),
-        true,
-        0,
-        15,
-    );
+    check(2, true, 0, 15, 4, 0, 10, 1, 55, 6, 0, 0);
+    check(2, false, 0, 15, 4, 0, 10, 1, 50, 6, 0, 0);
+    check(2, true, 0, 15, 4, 0, 10, 1, 1000000015, 6, 0, 0);
+    check(2, true, 0, 15, 4, 0, 10, 1, 1000000016, 6, 0, 0);
+    check(2, true, 0, 15, 4, 0, 10, 1, 18446744073709551615, 6, 0, 0);
     end_line();
 }
 
 fn dues_in_order() {
     title(b"dues don't fall");
-    let p = sporadic(10, 40, 2);
-    check(p, made(2, 0, 15, 2, 40, 4, 41, 4), true, 0, 20);
-    check(p, made(2, 0, 15, 2, 40, 4, 40, 4), true, 0, 20);
-    check(p, made(2, 0, 15, 2, 41, 4, 40, 4), true, 0, 20);
+    check(2, true, 0, 20, 2, 0, 15, 2, 40, 4, 41, 4);
+    check(2, true, 0, 20, 2, 0, 15, 2, 40, 4, 40, 4);
+    check(2, true, 0, 20, 2, 0, 15, 2, 41, 4, 40, 4);
     end_line();
 }
 
 fn amounts_sound() {
     title(b"amounts at least 1");
-    let p = sporadic(10, 40, 2);
-    check(p, made(4, 0, 15, 2, 40, 6, 41, 0), true, 0, 20);
+    check(2, true, 0, 20, 4, 0, 15, 2, 40, 6, 41, 0);
     end_line();
 }
 
 fn count_sound() {
     title(b"count at most max_repl, and at most the places");
-    check(
-        sporadic(10, 40, 1),
-        made(2, 0, 15, 2, 40, 4, 41, 4),
-        true,
-        0,
-        20,
-    );
-    check(
-        sporadic(10, 40, 255),
-        made(2, 0, 15, 9, 40, 4, 41, 4),
-        true,
-        0,
-        20,
-    );
-    check(
-        sporadic(10, 40, 255),
-        made(2, 0, 15, 255, 40, 4, 41, 4),
-        true,
-        0,
-        20,
-    );
+    check(1, true, 0, 20, 2, 0, 15, 2, 40, 4, 41, 4);
+    check(255, true, 0, 20, 2, 0, 15, 9, 40, 4, 41, 4);
+    check(255, true, 0, 20, 2, 0, 15, 255, 40, 4, 41, 4);
     end_line();
 }
 
 fn places_sound() {
     title(b"places past the count hold 0");
-    let p = sporadic(10, 40, 2);
-    check(p, made(4, 0, 15, 1, 40, 6, 7, 0), false, 0, 15);
-    check(p, made(4, 0, 15, 1, 40, 6, 0, 7), false, 0, 15);
-    check(p, made(10, 0, 15, 0, 1, 0, 0, 0), false, 0, 15);
+    check(2, false, 0, 15, 4, 0, 15, 1, 40, 6, 7, 0);
+    check(2, false, 0, 15, 4, 0, 15, 1, 40, 6, 0, 7);
+    check(2, false, 0, 15, 10, 0, 15, 0, 1, 0, 0, 0);
     end_line();
 }
 
