@@ -86,7 +86,7 @@ fn of_threads(s: State, what: u64, at: usize, value: u64) -> State {
         r.counts[at] = byte(value);
         return r;
     }
-    let t = s.threads[at];
+    let t = r.threads[at];
     r.threads[at] = of_thread(t, what, value);
     r
 }

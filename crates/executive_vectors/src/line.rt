@@ -73,7 +73,7 @@ pub(super) fn with_byte(l: Line, b: u8, next: usize) -> Line {
         return l;
     }
     let mut r = l;
-    let number = l.numbers[at];
+    let number = r.numbers[at];
     r.numbers[at] = with_digit(number, b);
     r.inside = true;
     r

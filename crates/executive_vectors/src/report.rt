@@ -10,15 +10,16 @@ fn text(s: &[u8]) {
     io::write_all(STDOUT_FILENO, s);
 }
 
-fn numbers(label: &[u8], x: [u64; 4]) {
+fn number(label: &[u8], n: u64) {
     text(label);
-    io::print_decimal(STDOUT_FILENO, x[0]);
-    text(b" ");
-    io::print_decimal(STDOUT_FILENO, x[1]);
-    text(b" ");
-    io::print_decimal(STDOUT_FILENO, x[2]);
-    text(b" ");
-    io::print_decimal(STDOUT_FILENO, x[3]);
+    io::print_decimal(STDOUT_FILENO, n);
+}
+
+fn numbers(label: &[u8], x: [u64; 4]) {
+    number(label, x[0]);
+    number(b" ", x[1]);
+    number(b" ", x[2]);
+    number(b" ", x[3]);
 }
 
 fn equal(a: [u64; 4], b: [u64; 4]) -> bool {
@@ -62,7 +63,6 @@ pub(super) fn compared(t: Tally, got: [u64; 4], want: [u64; 4]) -> Tally {
 // The last line.
 pub(super) fn finish(t: Tally) {
     io::print_decimal(STDOUT_FILENO, t.cases as u64);
-    text(b" cases, ");
-    io::print_decimal(STDOUT_FILENO, t.wrong as u64);
+    number(b" cases, ", t.wrong as u64);
     text(b" wrong\n");
 }

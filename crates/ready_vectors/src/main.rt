@@ -261,12 +261,32 @@ fn full_list() {
     );
 }
 
+// `five` after one thread left, or went to the tail of a list, or with one byte, place or word changed.
+fn show_removed(name: &[u8], i: u8) {
+    show(name, remove(five(), i), 3, 9);
+}
+
+fn show_moved(name: &[u8], i: u8, p: u8, q: u8) {
+    show(name, move_to_tail(five(), i, p), 3, q);
+}
+
+fn show_byte(name: &[u8], at: usize, x: u8, p: u8) {
+    show(name, with_byte(five(), at, x), p, 0);
+}
+
+fn show_place(name: &[u8], i: usize, p: u8) {
+    show(name, with_place(five(), i, p), 3, 9);
+}
+
+fn show_word(name: &[u8], word: u32) {
+    show(name, with_word(five(), word), 3, 9);
+}
+
 fn removals() {
-    let c = five();
-    show(b"head leaves", remove(c, 4), 3, 9);
-    show(b"middle leaves", remove(c, 6), 3, 9);
-    show(b"tail leaves", remove(c, 7), 3, 9);
-    show(b"only one leaves", remove(c, 8), 3, 9);
+    show_removed(b"head leaves", 4);
+    show_removed(b"middle leaves", 6);
+    show_removed(b"tail leaves", 7);
+    show_removed(b"only one leaves", 8);
 }
 
 fn last_removals() {
@@ -277,77 +297,50 @@ fn last_removals() {
 }
 
 fn moves_within() {
-    let c = five();
-    show(b"head to the tail of its list", move_to_tail(c, 4, 3), 3, 9);
-    show(
-        b"middle to the tail of its list",
-        move_to_tail(c, 5, 3),
-        3,
-        9,
-    );
-    show(b"tail to the tail of its list", move_to_tail(c, 7, 3), 3, 9);
-    show(
-        b"only one to the tail of its list",
-        move_to_tail(c, 8, 9),
-        3,
-        9,
-    );
+    show_moved(b"head to the tail of its list", 4, 3, 9);
+    show_moved(b"middle to the tail of its list", 5, 3, 9);
+    show_moved(b"tail to the tail of its list", 7, 3, 9);
+    show_moved(b"only one to the tail of its list", 8, 9, 9);
 }
 
 fn moves_between() {
-    let c = five();
-    show(b"to another list", move_to_tail(c, 5, 9), 3, 9);
-    show(b"only one to another list", move_to_tail(c, 8, 3), 3, 9);
-    show(b"to an empty list", move_to_tail(c, 6, 32), 3, 32);
+    show_moved(b"to another list", 5, 9, 9);
+    show_moved(b"only one to another list", 8, 3, 9);
+    show_moved(b"to an empty list", 6, 32, 32);
 }
 
 // The row of list 3 starts at byte 66.
 fn bad_lengths() {
-    let c = five();
-    show(b"length 33", with_byte(c, 66, 33), 9, 0);
-    show(b"length 255", with_byte(c, 66, 255), 9, 0);
-    show(b"length one too many", with_byte(c, 66, 5), 3, 0);
-    show(b"length one too few", with_byte(c, 66, 3), 3, 0);
+    show_byte(b"length 33", 66, 33, 9);
+    show_byte(b"length 255", 66, 255, 9);
+    show_byte(b"length one too many", 66, 5, 3);
+    show_byte(b"length one too few", 66, 3, 3);
 }
 
 fn bad_threads() {
-    let c = five();
-    show(b"number 32", with_byte(c, 68, 32), 3, 0);
-    show(b"number 255", with_byte(c, 68, 255), 3, 0);
-    show(b"a thread twice in its list", with_byte(c, 68, 4), 3, 0);
+    show_byte(b"number 32", 68, 32, 3);
+    show_byte(b"number 255", 68, 255, 3);
+    show_byte(b"a thread twice in its list", 68, 4, 3);
 }
 
 fn bad_places() {
-    let c = five();
-    show(b"a thread in the wrong list", with_place(c, 5, 9), 3, 9);
-    show(
-        b"a thread that must stand in none",
-        with_place(c, 5, 0),
-        3,
-        9,
-    );
-    show(b"a thread missing", with_place(c, 9, 3), 3, 9);
-    show(b"place 33", with_place(c, 9, 33), 3, 9);
+    show_place(b"a thread in the wrong list", 5, 9);
+    show_place(b"a thread that must stand in none", 5, 0);
+    show_place(b"a thread missing", 9, 3);
+    show_place(b"place 33", 9, 33);
 }
 
 fn bad_zeros() {
-    let c = five();
-    show(b"not 0 just past the length", with_byte(c, 71, 1), 3, 0);
-    show(b"not 0 in a row's last place", with_byte(c, 98, 1), 3, 0);
-    show(
-        b"not 0 in the last place of all",
-        with_byte(c, 1055, 1),
-        3,
-        0,
-    );
+    show_byte(b"not 0 just past the length", 71, 1, 3);
+    show_byte(b"not 0 in a row's last place", 98, 1, 3);
+    show_byte(b"not 0 in the last place of all", 1055, 1, 3);
 }
 
 // The word of `five` is 4 + 256.
 fn bad_words() {
-    let c = five();
-    show(b"a bit too many", with_word(c, 261), 3, 9);
-    show(b"a bit too few", with_word(c, 4), 3, 9);
-    show(b"no bit", with_word(c, 0), 3, 9);
+    show_word(b"a bit too many", 261);
+    show_word(b"a bit too few", 4);
+    show_word(b"no bit", 0);
 }
 
 fn main() {
