@@ -1,25 +1,28 @@
 -- The places from N on: their threads and counts one by one, their slots as one run of zeros.
 use Prim.Native.Nat.{ℕ, zero, suc, _+_, _-_, _*_, _≤_, _<_}
-use mathlib.Core.Bool.{Bool, true, false}
-use mathlib.Core.Path.{_≡_, refl, sym, _∙_}
+use mathlib.Core.Bool.{Bool, true, false, cond}
+use mathlib.Core.Path.{_≡_, refl, sym, ap, _∙_}
 use mathlib.Core.List.{List, [], _∷_, _++_}
 use native.Mathlib.Omega.{arith}
 use lib.ListN.{length, drop, getD}
 use lib.Bits.{bitOr}
 use lib.Dec.{ltb, eqb}
-use borrow.Author.Tests.{lt-ltb, le-ltb}
+use borrow.Author.Tests.{lt-ltb, le-ltb, eqb-true}
 use Rattle.base.specs.Tests.{all, below, zeros}
 use Rattle.base.proofs.TestLaws.{tests, All, all-true, true-all, all-one, same-test, below-at, cond-true, cond-false}
 use Rattle.base.proofs.ZeroLaws.{or-none, cond-both, Clear, part-clear, clear-part, drop-clear, clear-drop}
 use Rattle.records.specs.declared.Parameters.{Parameters}
-use Rattle.records.specs.Ranges.{allZero, fifoInRange}
+use Rattle.records.specs.Ranges.{byPolicy, allZero, fifoInRange}
 use Rattle.account.specs.declared.Pending.{Pending}
 use Rattle.rows.specs.Rows.{slotsAt}
 use Rattle.sporadic.specs.declared.Server.{Server}
+use Rattle.sporadic.specs.Rules.{atUpper}
 use Rattle.thread.specs.declared.Thread.{Thread}
+use Rattle.thread.specs.Thread.{placeOf}
 use Rattle.state.specs.declared.State.{State}
 use Rattle.state.specs.State.{threadAt, pendingAt}
-use Rattle.state.specs.Sound.{serverTests, noAccountTests, absentFields, absentTest, presentTest, threadTest, soundTests, soundState}
+use Rattle.state.specs.Sound.{serverTests, noAccountTests, absentFields, absentTest, presentTest, threadTest, totals, soundTests, soundState}
+use Rattle.state.proofs.ThreadLaws.{totals-next, totals-none}
 
 -- no thread, less its slots
 abbrev pub noThreadTests : Thread → ℕ → List Bool
@@ -95,6 +98,24 @@ module _ (t : Thread) (q : Pending) where
         all-true _ (v .1 .1 .1 .1 .1 .0),
       )
 
+  -- it stands in no list and has not run
+  pub absent-place : absentTest t q ≡ true → placeOf t (q .count) ≡ 0
+  unfolding absentTest allZero
+  absent-place e =
+      let h = all-true _ e in
+      let z = all-true _ (h .0) in
+      let b : t .blocked ≡ 0 = eqb-true _ _ (h .1 .0) in
+      let p : t .parameters .policy ≡ 0 = eqb-true _ _ (z .0) in
+      let y : t .parameters .priority ≡ 0 = eqb-true _ _ (z .1 .0) in
+      cond-false _ _ _ (le-ltb 0 (t .blocked) (omega arith))
+      ∙ ap (λ (c : ℕ). byPolicy c (t .parameters .priority) (t .parameters .priority)
+      (cond (atUpper (t .parameters) (t .server .capacity) (q .count)) (t .parameters .priority) (t .parameters .low))) p
+      ∙ y
+
+  pub absent-total : absentTest t q ≡ true → t .total ≡ 0
+  unfolding absentTest
+  absent-total e = eqb-true _ _ (all-true _ e .1 .1 .0)
+
 -- ---- the slots as one run
 
 slots-run : (d n : ℕ) (l : List ℕ) → ((j : ℕ) → n ≤ j → j < d + n → All (zeros (slotsAt j l))) → Clear (n * 8) ((d + n) * 8) l
@@ -154,3 +175,11 @@ module _ (s : State) (hi : s .header .n ≤ 32) where
         where
           run : (l : List ℕ) → length l ≡ 256 → ((j : ℕ) → s .header .n ≤ j → j < 32 → All (zeros (slotsAt j l))) → Clear (s .header .n * 8) (length l) l
           run l n f j lo up = slots-run (32 - s .header .n) (s .header .n) l (λ k x y. f k x (omega arith)) j lo (omega arith)
+
+  -- no thread from N on has run
+  pub none-run : length (s .threads) ≡ 32 → ((j : ℕ) → s .header .n ≤ j → j < 32 → threadAt s j .total ≡ 0) → totals (drop (s .header .n) (s .threads)) ≡ 0
+  none-run n f = go (32 - s .header .n) (s .header .n) (omega arith) (omega arith)
+    where
+      go : (d i : ℕ) → d + i ≡ 32 → s .header .n ≤ i → totals (drop i (s .threads)) ≡ 0
+      go zero i e l = totals-none (s .threads) i (omega arith)
+      go (suc d) i e l = omega (arith, totals-next (s .threads) i (omega arith), f i l (omega arith), go d (i + 1) (omega arith) (omega arith))

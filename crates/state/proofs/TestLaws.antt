@@ -1,12 +1,13 @@
--- Laws of tests: every number below n, and the last test of a list.
-use Prim.Native.Nat.{ℕ, _+_}
+-- Laws of tests: every number below n, the last test of a list, the policies.
+use Prim.Native.Nat.{ℕ, _+_, _<_}
 use mathlib.Core.Bool.{Bool, true, false, cond, not}
 use mathlib.Core.Path.{_≡_, refl, sym, _∙_}
 use mathlib.Core.List.{List, [], _∷_, _++_}
+use lib.Dec.{eqb}
 use native.Mathlib.Numerals.{add-one}
-use borrow.Author.Tests.{not-true, not-false}
+use borrow.Author.Tests.{eq-eqb, ne-eqb, eqb-true, eqb-false, not-true, not-false}
 use Rattle.base.specs.Tests.{all, below}
-use Rattle.base.proofs.TestLaws.{All, false-true, all-one}
+use Rattle.base.proofs.TestLaws.{All, false-true, all-one, below-at}
 
 -- the answer r of a function that decides t, in `if !r`
 pub decided-true : {t : Bool} (r : Bool) → r ≡ t → not r ≡ false → t ≡ true
@@ -53,3 +54,18 @@ by-last bs e h = e ∙ sym (all-last bs h)
 pub below-next : (i : ℕ) (f : ℕ → Bool) → below i f ≡ true → f i ≡ true → below (i + 1) f ≡ true
 unfolding below
 below-next i f e g = rw (add-one, below) (rw (e, below) g)
+
+pub below-false : (n : ℕ) (f : ℕ → Bool) (i : ℕ) → i < n → f i ≡ false → below n f ≡ false
+below-false n f i h e = go (below n f) refl
+  where
+    go : (b : Bool) → below n f ≡ b → b ≡ false
+    go true q = sym (below-at n f q i h) ∙ e
+    go false q = refl
+
+-- two comparisons that say the same
+pub eqb-same : (a b c d : ℕ) → (a ≡ b → c ≡ d) → (c ≡ d → a ≡ b) → eqb a b ≡ eqb c d
+eqb-same a b c d f g = go (eqb a b) refl
+  where
+    go : (x : Bool) → eqb a b ≡ x → x ≡ eqb c d
+    go true e = sym (eq-eqb c d (f (eqb-true a b e)))
+    go false e = sym (ne-eqb c d (λ h. eqb-false a b e (g h)))

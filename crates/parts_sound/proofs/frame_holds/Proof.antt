@@ -1,5 +1,7 @@
 -- `parts_sound::frame_holds` meets its contract: the first test that fails makes the list false, and else the last one decides.
+use Prim.Native.Nat.{_<_, _≤_}
 use mathlib.Core.Path.{sym}
+use native.Mathlib.Omega.{arith}
 use borrow.Author.Needs.{needs}
 use borrow.Author.Tests.{lt-leb, le-leb}
 use Rattle.records.specs.Ranges.{mostThreads, lastTime}

@@ -9,12 +9,14 @@ use mir.Syntax.{w64}
 use mir.Val.{Fits}
 use lib.ListN.{length, drop, getD, set, length-set}
 use lib.Dec.{ltb, leb, eqb}
+use borrow.Author.Needs.{needs}
 use borrow.Author.Tests.{le-ltb, ltb-true, ltb-false, le-leb, leb-true, eq-eqb, eqb-true}
 use Rattle.records.specs.Ranges.{mostThreads, lastTime}
 use Rattle.base.specs.Tests.{all, below, zeros}
 use Rattle.base.proofs.TestLaws.{all-true, true-all, false-true, never-true, same-test, below-at, at-below, cond-true, cond-false}
 use Rattle.account.specs.Account.{entries}
 use Rattle.ready.specs.Sound.{soundLists}
+use Rattle.thread.specs.declared.Thread.{Thread}
 use Rattle.state.specs.declared.State.{State}
 use Rattle.state.specs.State.{threadAt, pendingAt, place}
 use Rattle.state.specs.Sound.{threadTest, presentTest, totals, soundTests, soundState}
