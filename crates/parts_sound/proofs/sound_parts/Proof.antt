@@ -1,279 +1,338 @@
--- `parts_sound::sound_parts` meets its contract: a part that fails is one that a sound state passes, and after the last thread
--- the lists, the word and the run times decide.
-use Prim.Native.Nat.{ℕ, _+_, _-_, _*_, _≤_, _<_}
-use mathlib.Core.Bool.{Bool, true, false, cond, not}
+-- `parts_sound::sound_parts` meets its contract: a part that fails makes the list of tests false, and where the others hold the
+-- run times decide.
+use Prim.Native.Nat.{ℕ, _+_, _-_, _≤_, _<_}
+use mathlib.Core.Bool.{Bool, true, false, not}
 use mathlib.Core.Path.{_≡_, refl, sym, ap, fun-ext, _∙_}
-use mathlib.Core.List.{List, [], _∷_}
+use mathlib.Core.List.{List}
 use native.Mathlib.Omega.{arith}
-use mir.Syntax.{w64}
-use mir.Val.{Fits}
-use lib.ListN.{length, drop, getD, set, length-set}
-use lib.Dec.{ltb, leb, eqb}
+use lib.ListN.{length, drop, getD, set, length-set, replicate, getD-replicate}
+use lib.Seq.{getD-set-other}
+use lib.Dec.{ltb, eqb}
 use borrow.Author.Needs.{needs}
-use borrow.Author.Tests.{le-ltb, ltb-true, ltb-false, le-leb, leb-true, eq-eqb, eqb-true}
+use borrow.Author.Tests.{lt-leb, le-leb, eq-eqb, ne-eqb}
 use Rattle.records.specs.Ranges.{mostThreads, lastTime}
-use Rattle.base.specs.Tests.{all, below, zeros}
-use Rattle.base.proofs.TestLaws.{all-true, true-all, false-true, never-true, same-test, below-at, at-below, cond-true, cond-false}
-use Rattle.account.specs.Account.{entries}
+use Rattle.base.specs.Tests.{all, below}
+use Rattle.base.proofs.TestLaws.{tests, all-false, false-true, never-true, below-at, at-below}
 use Rattle.ready.specs.Sound.{soundLists}
 use Rattle.thread.specs.declared.Thread.{Thread}
 use Rattle.state.specs.declared.State.{State}
 use Rattle.state.specs.State.{threadAt, pendingAt, place}
-use Rattle.state.specs.Sound.{threadTest, presentTest, totals, soundTests, soundState}
+use Rattle.state.specs.Sound.{threadTest, presentTest, absentTest, totals, soundTests, soundState}
 use Rattle.state.specs.Updates.{stateOf}
-use Rattle.state.proofs.TestLaws.{decided-true, decided-false, _and_}
-use Rattle.state.proofs.ThreadLaws.{Filled, fill-next, fill-end, totals-next, totals-none}
-use Rattle.state.proofs.AbsentLaws.{noThreadTests, slotsTest, at-absent, at-present, none-in, none-thread, none-slots}
+use Rattle.state.proofs.TestLaws.{decided-true, decided-false, _and_, by-last, below-next, below-false, eqb-same}
+use Rattle.state.proofs.ThreadLaws.{Filled, fill-next, fill-end, totals-next}
+use Rattle.state.proofs.AbsentLaws.{noThreadTests, at-absent, at-present, none-in, none-thread, none-slots, none-run, absent-place, absent-total}
 use Rattle.parts_sound.proofs.sound_parts.Statement.{statement}
 use Rattle.parts_sound.proofs.sound_parts.Tie as tie
 
--- what is asked of thread j alone: from N on its slots are asked apart
-abbrev ownTest : State → ℕ → Bool
-ownTest s j =
-    cond (ltb j (s .header .n)) (presentTest (s .header .start) (s .now) (threadAt s j) (pendingAt s j))
-    (all (noThreadTests (threadAt s j) (getD (s .counts) j 0)))
+-- the start time, all run times and the idle time
+abbrev sum : State → ℕ
+sum s = s .header .start + totals (s .threads) + s .idle
 
--- N and the times, and the slots from N on
-abbrev frameTests : State → List Bool
-frameTests s =
-    leb 1 (s .header .n) ∷ leb (s .header .n) mostThreads
-    ∷ leb (s .header .start) (s .now) ∷ leb (s .now) lastTime
-    ∷ all (all (zeros (drop (s .header .n * entries) (s .dues))) ∷ all (zeros (drop (s .header .n * entries) (s .amounts))) ∷ [])
-    ∷ []
-
-record Frame (s : State) : Type 0 where
-  some : 1 ≤ s .header .n
-  few : s .header .n ≤ 32
-  begun : s .header .start ≤ s .now
-  ends : s .now ≤ lastTime
-  counts : length (s .counts) ≡ 32
-  dues : length (s .dues) ≡ 256
-  amounts : length (s .amounts) ≡ 256
-  slots : slotsTest s few dues amounts ≡ true
-
--- after i threads: each is as it must be, their places are filled in, and what is left is what their times leave
-record Passed (s : State) (left : ℕ) (places : List ℕ) (i : ℕ) : Type 0 where
-  range : i ≤ 32
+-- the places from N on before k hold no thread, their slots apart
+record None (s : State) (k : ℕ) : Type 0 where
   many : length (s .threads) ≡ 32
-  own : (j : ℕ) → j < i → ownTest s j ≡ true
+  low : s .header .n ≤ k
+  high : k ≤ 32
+  each : (j : ℕ) → s .header .n ≤ j → j < k → all (noThreadTests (threadAt s j) (getD (s .counts) j 0)) ≡ true
+
+more : (s : State) (k : ℕ) → None s k → k < 32 → all (noThreadTests (threadAt s k) (getD (s .counts) k 0)) ≡ true → None s (k + 1)
+more s k h l e = record { many = h .many; low = omega (arith, h .low); high = omega arith; each = λ j a b. go j a b (ltb j k) refl }
+  where
+    go : (j : ℕ) → s .header .n ≤ j → j < k + 1 → (t : Bool) → ltb j k ≡ t → all (noThreadTests (threadAt s j) (getD (s .counts) j 0)) ≡ true
+    go j a b true q = h .each j a (omega tests)
+    go j a b false q = let z : j ≡ k = omega tests in rw z e
+
+-- after i of the N threads: their tests hold, their places are filled in and no other, and what is left is what their times leave
+record Passed (s : State) (left : ℕ) (places : List ℕ) (i : ℕ) : Type 0 where
+  few : s .header .n ≤ 32
+  none : (j : ℕ) → s .header .n ≤ j → j < 32 → absentTest (threadAt s j) (pendingAt s j) ≡ true
+  range : i ≤ s .header .n
+  many : length (s .threads) ≡ 32
+  held : below i (threadTest s) ≡ true
   array : length places ≡ 32
   filled : Filled (s .threads) (s .counts) places i
+  unfilled : (j : ℕ) → i ≤ j → j < 32 → getD places j 0 ≡ 0
   rest : left + (s .header .start + totals (s .threads)) ≡ s .now + totals (drop i (s .threads))
 
--- a sound state has a frame, and each of its threads is as it must be
-module _ (s : State) (y : soundState s ≡ true) where
-  framed : length (s .dues) ≡ 256 → length (s .amounts) ≡ 256
-      → all (frameTests s) ≡ true
-  unfolding soundState
-  framed d a =
-      let h = all-true (soundTests s) y in
-      true-all _ (h .0 and h .1 .0 and h .1 .1 .0 and h .1 .1 .1 .0 and none-slots s (leb-true _ _ (h .1 .0)) d a y and tt)
-
-  owned : Frame s → (i : ℕ) → i < 32 → ownTest s i ≡ true
-  unfolding soundState
-  owned f i l = go (ltb i (s .header .n)) refl
-    where
-      go : (t : Bool) → ltb i (s .header .n) ≡ t → ownTest s i ≡ true
-      go true q =
-          cond-true _ _ _ q
-          ∙ sym (at-present s (f .few) i (ltb-true _ _ q))
-          ∙ below-at 32 (threadTest s) (all-true (soundTests s) y .1 .1 .1 .1 .1 .1 .1 .1 .0) i l
-      go false q = cond-false _ _ _ q ∙ none-thread s (f .few) (f .dues) (f .amounts) y i (ltb-false _ _ q) l
-
-  within : {left : ℕ} {places : List ℕ} {i : ℕ} → Passed s left places i → i < 32 → threadAt s i .total ≤ left
-  unfolding soundState
-  within {left} {places} {i} h l =
-      let e : s .header .start + totals (s .threads) + s .idle ≡ s .now = eqb-true _ _ (all-true (soundTests s) y .1 .1 .1 .1 .1 .1 .1 .1 .1 .1 .0) in
-      let t = totals-next (s .threads) i (omega (arith, h .many)) in
-      omega (arith, h .rest)
-
 module _ {s : State} {left : ℕ} {places : List ℕ} {i : ℕ} (h : Passed s left places i) where
-  next : (x : ℕ) → i < 32 → ownTest s i ≡ true → threadAt s i .total ≤ left → x ≡ place s i
+  -- a thread that has run for longer than what is left
+  over : i < s .header .n → left < threadAt s i .total → eqb (sum s) (s .now) ≡ false
+  over g l =
+      let t = totals-next (s .threads) i (omega (arith, h .many, h .few)) in
+      ne-eqb (sum s) (s .now) (λ e. omega (arith, h .rest))
+
+  next : (x : ℕ) → i < s .header .n → threadTest s i ≡ true → threadAt s i .total ≤ left → x ≡ place s i
       → Passed s (left - threadAt s i .total) (set places i x) (i + 1)
   next x g t l e = record {
+    few = h .few;
+    none = h .none;
     range = omega arith;
     many = h .many;
-    own = λ j b. go j b (ltb j i) refl;
+    held = below-next i (threadTest s) (h .held) t;
     array = simp length-set (h .array);
-    filled = fill-next (s .threads) (s .counts) places i x (omega (arith, h .array)) (h .filled) e;
-    rest = omega (arith, h .rest, totals-next (s .threads) i (omega (arith, h .many)));
+    filled = fill-next (s .threads) (s .counts) places i x (omega (arith, h .array, h .few)) (h .filled) e;
+    unfilled = λ j a b. getD-set-other places i j x 0 (λ q. omega arith) ∙ h .unfilled j (omega arith) b;
+    rest = omega (arith, h .rest, totals-next (s .threads) i (omega (arith, h .many, h .few)));
   }
-    where
-      go : (j : ℕ) → j < i + 1 → (b : Bool) → ltb j i ≡ b → ownTest s j ≡ true
-      go j b true q = h .own j (ltb-true _ _ q)
-      go j b false q = let z : j ≡ i = omega (arith, ltb-false j i q) in rw z t
 
   -- after the last thread
-  module _ (f : Frame s) (g : 32 ≤ i) where
+  module _ (g : s .header .n ≤ i) where
+    last : i ≡ s .header .n
+    last = omega (arith, h .range)
+
     every : below 32 (threadTest s) ≡ true
-    every = at-below 32 (threadTest s) (λ j l. go j l (ltb j (s .header .n)) refl)
+    every = at-below 32 (threadTest s) (λ j l. go j l (ltb j i) refl)
       where
-        none : (j : ℕ) → s .header .n ≤ j → j < 32 → all (noThreadTests (threadAt s j) (getD (s .counts) j 0)) ≡ true
-        none j lo up = sym (cond-false _ _ _ (le-ltb _ _ lo)) ∙ h .own j (omega arith)
-
-        go : (j : ℕ) → j < 32 → (t : Bool) → ltb j (s .header .n) ≡ t → threadTest s j ≡ true
-        go j l true q = at-present s (f .few) j (ltb-true _ _ q) ∙ sym (cond-true _ _ _ q) ∙ h .own j (omega arith)
+        go : (j : ℕ) → j < 32 → (t : Bool) → ltb j i ≡ t → threadTest s j ≡ true
+        go j l true q = below-at i (threadTest s) (h .held) j (omega tests)
         go j l false q =
-            let z = ltb-false _ _ q in
-            at-absent s (f .few) j z ∙ none-in s (f .few) (f .dues) (f .amounts) none (f .slots) j z l
+            let z : s .header .n ≤ j = omega (tests, last) in
+            at-absent s (h .few) j z ∙ h .none j z l
 
-    listed : soundLists (λ k. getD places k 0) (s .word) (s .lists) ≡ soundLists (place s) (s .word) (s .lists)
-    listed =
-        ap (λ (p : ℕ → ℕ). soundLists p (s .word) (s .lists))
-        (fun-ext (fill-end (s .threads) (s .counts) places (h .array) (h .many) (λ j l. h .filled j (omega arith))))
+    placed : Filled (s .threads) (s .counts) places 32
+    placed j l = go (ltb j i) refl
+      where
+        go : (t : Bool) → ltb j i ≡ t → getD places j 0 ≡ place s j
+        go true q = h .filled j (omega tests)
+        go false q =
+            let z : s .header .n ≤ j = omega (tests, last) in
+            h .unfilled j (omega tests) l ∙ sym (absent-place (threadAt s j) (pendingAt s j) (h .none j z l))
 
-    timed : left + (s .header .start + totals (s .threads)) ≡ s .now
-    timed = let z = totals-none (s .threads) i (omega (arith, h .many)) in omega (arith, h .rest)
-
-    decides : (r : Bool) → r ≡ all (soundLists (λ k. getD places k 0) (s .word) (s .lists) ∷ eqb left (s .idle) ∷ []) → r ≡ soundState s
-    unfolding soundState
-    decides r e =
+    listed : (r : Bool) → r ≡ soundLists (λ k. getD places k 0) (s .word) (s .lists) → r ≡ soundLists (place s) (s .word) (s .lists)
+    listed r e =
         e
-        ∙ same-test _ _
-        (λ y.
-        let b = all-true _ y in
-        true-all (soundTests s)
-        (le-leb _ _ (f .some)
-        and le-leb _ mostThreads (f .few)
-        and le-leb _ _ (f .begun)
-        and le-leb _ lastTime (f .ends)
-        and eq-eqb _ 32 (h .many)
-        and eq-eqb _ 32 (f .counts)
-        and eq-eqb _ 256 (f .dues)
-        and eq-eqb _ 256 (f .amounts)
-        and every
-        and (sym listed ∙ b .0)
-        and eq-eqb (s .header .start + totals (s .threads) + s .idle) (s .now) (omega (arith, timed, eqb-true left (s .idle) (b .1 .0)))
-        and tt))
-        (λ y.
-        let b = all-true (soundTests s) y .1 .1 .1 .1 .1 .1 .1 .1 .1 in
-        true-all _ ((listed ∙ b .0) and eq-eqb left (s .idle) (omega (arith, timed, eqb-true (s .header .start + totals (s .threads) + s .idle) (s .now) (b .1 .0))) and tt))
+        ∙ ap (λ (p : ℕ → ℕ). soundLists p (s .word) (s .lists)) (fun-ext (fill-end (s .threads) (s .counts) places (h .array) (h .many) placed))
 
--- a test that every sound state passes
-unsound : (s : State) {r t : Bool} → r ≡ t → not r ≡ true → (soundState s ≡ true → t ≡ true) → false ≡ soundState s
-unsound s {r} e n f = sym (never-true _ (λ y. false-true (sym (decided-false r e n) ∙ f y)))
-
--- the frame, of a state whose arrays have their lengths
-frame : (s : State) {r : Bool}
-    → r ≡ all (frameTests s) → not r ≡ false → length (s .counts) ≡ 32 → length (s .dues) ≡ 256 → length (s .amounts) ≡ 256 → Frame s
-frame s {r} e n c d a =
-    let h = all-true _ (decided-true r e n) in
-    record {
-      some = leb-true _ _ (h .0);
-      few = leb-true _ _ (h .1 .0);
-      begun = leb-true _ _ (h .1 .1 .0);
-      ends = leb-true _ _ (h .1 .1 .1 .0);
-      counts = c;
-      dues = d;
-      amounts = a;
-      slots = h .1 .1 .1 .1 .0;
-    }
-
--- numbers below 32: the place of a thread, the next one, how many are left
-bytes : (i : ℕ) → i < 32 → Fits w64 (i * 72)
-bytes i l = omega arith
-
-after : (i : ℕ) → i < 32 → Fits w64 (i + 1)
-after i l = omega arith
-
-less : (i : ℕ) → i < 32 → 32 - (i + 1) < 32 - i
-less i l = omega arith
-
--- at the start no thread is passed, and what is left is the whole time
-none : 0 ≤ 32
-none = omega arith
-
-back : (now start t : ℕ) → start ≤ now → now - start + (start + t) ≡ now + t
-back now start t l = omega arith
+    timed : eqb left (s .idle) ≡ eqb (sum s) (s .now)
+    timed =
+        let z = none-run s (h .few) (h .many) (λ j a b. absent-total (threadAt s j) (pendingAt s j) (h .none j a b)) in
+        let y : totals (drop i (s .threads)) ≡ 0 = rw last z in
+        eqb-same left (s .idle) (sum s) (s .now) (λ q. omega (arith, h .rest)) (λ q. omega (arith, h .rest))
 
 abbrev Inv-loop : tie.InvT-loop
-Inv-loop header time idle word counts dues amounts lists threads left₀ places₀ i₀ left places i =
-    Passed (stateOf header time idle word threads counts dues amounts lists) left places i
+Inv-loop header time idle word counts dues amounts lists threads n k₀ k = None (stateOf header time idle word threads counts dues amounts lists) k
 
 abbrev μ-loop : tie.MeasureT-loop
-μ-loop header time idle word counts dues amounts lists threads left₀ places₀ i₀ left places i = 32 - i
+μ-loop header time idle word counts dues amounts lists threads n k₀ k = 32 - k
 
--- the state of these parts, at the entry and in the loop
-abbrev parts : tie.Start Inv-loop μ-loop → State
+abbrev Inv-loop2 : tie.InvT-loop2
+Inv-loop2 header time idle word counts dues amounts lists threads n k left₀ places₀ i₀ left places i =
+    Passed (stateOf header time idle word threads counts dues amounts lists) left places i
+
+abbrev μ-loop2 : tie.MeasureT-loop2
+μ-loop2 header time idle word counts dues amounts lists threads n k left₀ places₀ i₀ left places i = header .n - i
+
+-- the state of these parts, at the entry and in each loop
+abbrev parts : tie.Start Inv-loop μ-loop Inv-loop2 μ-loop2 → State
 parts b =
     let a = b .args in
     stateOf (a .header) (a .time) (a .idle) (a .word) (a .t5) (a .counts .now) (a .dues .now) (a .amounts .now) (a .lists .now)
 
-abbrev entered : tie.At-loop Inv-loop μ-loop → tie.Start Inv-loop μ-loop
-entered b = b .before .before .before .before
+abbrev scanning : tie.At-loop Inv-loop μ-loop Inv-loop2 μ-loop2 → State
+scanning b = parts (b .before .before .before .before .before .before .before .before .before)
 
-whole : (b : tie.Else1 Inv-loop μ-loop) → Frame (parts (b .before .before))
-whole b = let p = b .before .before .pre in frame _ (b .before .frame-holds .ensures) (b .if1 .left) (p .0) (p .1) (p .2)
+abbrev passing : tie.At-loop2 Inv-loop μ-loop Inv-loop2 μ-loop2 → State
+passing b = scanning (b .before .before .before .before .before .before .before)
 
-frame-holds-requires : tie.Need-frame-holds-requires Inv-loop μ-loop
-frame-holds-requires c κs = (c .pre .1, c .pre .2)
+-- N threads at most, and slots for all of them
+record Bounds (s : State) : Type 0 where
+  few : s .header .n ≤ 32
+  dues : length (s .dues) ≡ 256
+  amounts : length (s .amounts) ≡ 256
 
-returns : tie.Need-returns Inv-loop μ-loop
-returns c =
-    let p = c .before .before .pre in
-    unsound _ (c .before .frame-holds .ensures) (c .if1 .taken) (λ y. framed _ y (p .1) (p .2))
+bounds : (b : tie.At-loop Inv-loop μ-loop Inv-loop2 μ-loop2) → Bounds (scanning b)
+bounds b = record { few = omega arith; dues = omega arith; amounts = omega arith }
 
-sub-left : tie.Need-sub-left Inv-loop μ-loop
-sub-left c = whole (c .before) .begun
+-- what was answered for thread i, below N
+module _ (s : State) (few : s .header .n ≤ 32) (i : ℕ) (g : i < s .header .n) {r : Bool}
+    (e : r ≡ presentTest (s .header .start) (s .now) (threadAt s i) (pendingAt s i)) where
+  thread-true : not r ≡ false → threadTest s i ≡ true
+  thread-true f = at-present s few i g ∙ decided-true r e f
 
-loop-holds : tie.Need-loop-holds Inv-loop μ-loop
-loop-holds c = record { range = none; many = omega arith; own = λ j l. absurd (omega (arith, l)); array = refl; filled = λ j l. absurd (omega (arith, l)); rest = back _ _ _ (whole (c .before) .begun) }
+  thread-false : not r ≡ true → threadTest s i ≡ false
+  thread-false f = at-present s few i g ∙ decided-false r e f
 
-mul-t : tie.Need-mul-t Inv-loop μ-loop
-mul-t c = bytes _ (c .loop-test .taken)
+-- no place is filled in at the start
+unfilled-first : (ts : List Thread) (counts places : List ℕ) → Filled ts counts places 0
+unfilled-first ts counts places j l = absurd (omega arith)
 
-array-copy-out-t : tie.Need-array-copy-out-t Inv-loop μ-loop
-array-copy-out-t c = c .loop-test .taken
+-- a test that every sound state passes
+unsound : (s : State) {t : Bool} → t ≡ false → (soundState s ≡ true → t ≡ true) → false ≡ soundState s
+unsound s e f = sym (never-true _ (λ y. false-true (sym e ∙ f y)))
 
-thread-fits-requires : tie.Need-thread-fits-requires Inv-loop μ-loop
-thread-fits-requires c κs =
-    let b = c .before .before in
-    let p = entered b .pre in
-    (c .before .loop-test .taken, p .1, p .2)
+returns : tie.Need-returns Inv-loop μ-loop Inv-loop2 μ-loop2
+unfolding soundState
+returns c = sym (all-false (soundTests (parts (c .before .before))) 0 (lt-leb _ _ (c .if1 .taken)))
 
-returns-2 : tie.Need-returns-2 Inv-loop μ-loop
+returns-2 : tie.Need-returns-2 Inv-loop μ-loop Inv-loop2 μ-loop2
+unfolding soundState
 returns-2 c =
-    let l = c .before .before .before in
-    let b = l .before in
-    unsound _ (c .before .thread-fits .ensures) (c .if2 .taken)
-    (λ y. true-all _ (le-leb _ _ (within _ y (b .loop .inv) (l .loop-test .taken)) and owned _ y (whole (b .before .before)) (b .loop .i) (l .loop-test .taken) and tt))
+    let s = parts (c .before .before .before .before) in
+    let h : mostThreads < s .header .n = omega (arith, c .if2 .taken) in
+    sym (all-false (soundTests s) 1 (lt-leb (s .header .n) mostThreads h))
 
-element-copy-out-assigned-place : tie.Need-element-copy-out-assigned-place Inv-loop μ-loop
-element-copy-out-assigned-place c = c .before .before .before .loop-test .taken
+returns-3 : tie.Need-returns-3 Inv-loop μ-loop Inv-loop2 μ-loop2
+unfolding soundState
+returns-3 c = sym (all-false (soundTests (parts (c .before .before .before .before .before .before))) 2 (lt-leb _ _ (c .if3 .taken)))
 
-assigned-place-requires : tie.Need-assigned-place-requires Inv-loop μ-loop
-assigned-place-requires c κs = tt
+returns-4 : tie.Need-returns-4 Inv-loop μ-loop Inv-loop2 μ-loop2
+unfolding soundState
+returns-4 c =
+    let s = parts (c .before .before .before .before .before .before .before) in
+    let h : lastTime < s .now = omega (arith, c .if4 .taken) in
+    sym (all-false (soundTests s) 3 (lt-leb (s .now) lastTime h))
 
-array-write-places : tie.Need-array-write-places Inv-loop μ-loop
-array-write-places c = c .before .before .before .before .before .loop-test .taken
+cast-n : tie.Need-cast-n Inv-loop μ-loop Inv-loop2 μ-loop2
+cast-n c = omega arith
 
-sub-left-2 : tie.Need-sub-left-2 Inv-loop μ-loop
-sub-left-2 c =
-    let e = c .before .before .before in
-    leb-true _ _ (all-true _ (decided-true _ (e .before .thread-fits .ensures) (e .if2 .left)) .0)
+loop-holds : tie.Need-loop-holds Inv-loop μ-loop Inv-loop2 μ-loop2
+loop-holds c = record { many = omega arith; low = omega arith; high = omega arith; each = λ j a b. absurd (omega arith) }
 
-add-i : tie.Need-add-i Inv-loop μ-loop
-add-i c = after _ (c .before .before .before .before .before .before .loop-test .taken)
+mul-t : tie.Need-mul-t Inv-loop μ-loop Inv-loop2 μ-loop2
+mul-t c = omega arith
 
-loop-less : tie.Need-loop-less Inv-loop μ-loop
-loop-less c = less _ (c .before .before .before .before .before .before .loop-test .taken)
+array-copy-out-t : tie.Need-array-copy-out-t Inv-loop μ-loop Inv-loop2 μ-loop2
+array-copy-out-t c = omega arith
 
-loop-again : tie.Need-loop-again Inv-loop μ-loop
+element-copy-out-no-thread : tie.Need-element-copy-out-no-thread Inv-loop μ-loop Inv-loop2 μ-loop2
+element-copy-out-no-thread c = omega arith
+
+no-thread-requires : tie.Need-no-thread-requires Inv-loop μ-loop Inv-loop2 μ-loop2
+no-thread-requires c κs = search needs
+
+returns-5 : tie.Need-returns-5 Inv-loop μ-loop Inv-loop2 μ-loop2
+returns-5 c =
+    let b = c .before .before .before .before .before in
+    let n = bounds b in
+    unsound (scanning b) (decided-false _ (c .before .no-thread .ensures) (c .if5 .taken))
+    (λ y. none-thread (scanning b) (n .few) (n .dues) (n .amounts) y (b .loop .k) (b .loop .inv .low) (omega arith))
+
+add-k : tie.Need-add-k Inv-loop μ-loop Inv-loop2 μ-loop2
+add-k c = omega arith
+
+loop-less : tie.Need-loop-less Inv-loop μ-loop Inv-loop2 μ-loop2
+loop-less c = omega arith
+
+loop-again : tie.Need-loop-again Inv-loop μ-loop Inv-loop2 μ-loop2
 loop-again c =
+    let b = c .before .before .before .before .before in
+    more (scanning b) (b .loop .k) (b .loop .inv) (omega arith) (decided-true _ (c .before .no-thread .ensures) (c .if5 .left))
+
+no-slots-requires : tie.Need-no-slots-requires Inv-loop μ-loop Inv-loop2 μ-loop2
+no-slots-requires c κs = search needs
+
+returns-6 : tie.Need-returns-6 Inv-loop μ-loop Inv-loop2 μ-loop2
+returns-6 c =
+    let b = c .before .before .before .before .before in
+    let n = bounds b in
+    unsound (scanning b) (decided-false _ (c .before .no-slots .ensures) (c .if6 .taken)) (λ y. none-slots (scanning b) (n .few) (n .dues) (n .amounts) y)
+
+loop2-holds : tie.Need-loop2-holds Inv-loop μ-loop Inv-loop2 μ-loop2
+unfolding below
+loop2-holds c =
+    let b = c .before .before .before .before .before .before in
+    let n = bounds b in
+    let k : 32 ≤ b .loop .k = omega arith in
+    record {
+      few = n .few;
+      none = none-in (scanning b) (n .few) (n .dues) (n .amounts) (λ j lo up. b .loop .inv .each j lo (omega arith))
+          (decided-true _ (c .before .before .no-slots .ensures) (c .before .if6 .left));
+      range = omega arith;
+      many = b .loop .inv .many;
+      held = refl;
+      array = omega arith;
+      filled = unfilled-first (scanning b .threads) (scanning b .counts) (replicate 32 0);
+      unfilled = λ j lo up. getD-replicate 32 j 0 0 up;
+      rest = omega arith;
+    }
+
+mul-t-2 : tie.Need-mul-t-2 Inv-loop μ-loop Inv-loop2 μ-loop2
+mul-t-2 c = omega arith
+
+array-copy-out-t-2 : tie.Need-array-copy-out-t-2 Inv-loop μ-loop Inv-loop2 μ-loop2
+array-copy-out-t-2 c = omega arith
+
+thread-holds-requires : tie.Need-thread-holds-requires Inv-loop μ-loop Inv-loop2 μ-loop2
+thread-holds-requires c κs = search needs
+
+returns-7 : tie.Need-returns-7 Inv-loop μ-loop Inv-loop2 μ-loop2
+unfolding soundState
+returns-7 c =
+    let b = c .before .before .before .before .before .before in
+    let s = passing b in
+    sym
+    (all-false (soundTests s) 8
+    (below-false 32 (threadTest s) (b .loop2 .i) (omega arith)
+    (thread-false s (b .loop2 .inv .few) (b .loop2 .i) (omega arith) (c .before .thread-holds .ensures) (c .if7 .taken))))
+
+returns-8 : tie.Need-returns-8 Inv-loop μ-loop Inv-loop2 μ-loop2
+unfolding soundState
+returns-8 c =
+    let b = c .before .before .before .before .before .before .before .before in
+    sym (all-false (soundTests (passing b)) 10 (over (b .loop2 .inv) (omega arith) (c .if8 .taken)))
+
+element-copy-out-assigned-place :
+    tie.Need-element-copy-out-assigned-place Inv-loop μ-loop Inv-loop2 μ-loop2
+element-copy-out-assigned-place c = omega arith
+
+assigned-place-requires : tie.Need-assigned-place-requires Inv-loop μ-loop Inv-loop2 μ-loop2
+assigned-place-requires c κs = search needs
+
+array-write-places : tie.Need-array-write-places Inv-loop μ-loop Inv-loop2 μ-loop2
+array-write-places c = omega arith
+
+add-i : tie.Need-add-i Inv-loop μ-loop Inv-loop2 μ-loop2
+add-i c = omega arith
+
+loop2-less : tie.Need-loop2-less Inv-loop μ-loop Inv-loop2 μ-loop2
+loop2-less c = omega arith
+
+loop2-again : tie.Need-loop2-again Inv-loop μ-loop Inv-loop2 μ-loop2
+loop2-again c =
     let p = c .before in
     let e = p .before .before in
-    let l = e .before .before .before in
-    let b = l .before in
-    let h = all-true _ (decided-true _ (e .before .thread-fits .ensures) (e .if2 .left)) in
-    next (b .loop .inv) _ (l .loop-test .taken) (h .1 .0) (leb-true _ _ (h .0)) (p .assigned-place .ensures)
+    let h = e .before .before in
+    let b = h .before .before .before .before .before .before in
+    let s = passing b in
+    next (b .loop2 .inv) _ (omega arith)
+    (thread-true s (b .loop2 .inv .few) (b .loop2 .i) (omega arith) (h .before .thread-holds .ensures) (h .if7 .left))
+    (e .if8 .left) (p .assigned-place .ensures)
 
-closes-requires : tie.Need-closes-requires Inv-loop μ-loop
-closes-requires c κs = tt
+sound-requires : tie.Need-sound-requires Inv-loop μ-loop Inv-loop2 μ-loop2
+sound-requires c κs = search needs
 
-returns-3 : tie.Need-returns-3 Inv-loop μ-loop
-returns-3 c =
-    let l = c .before in
-    decides (l .before .loop .inv) (whole (l .before .before .before)) (l .loop-test .left) _ (c .closes .ensures)
+returns-9 : tie.Need-returns-9 Inv-loop μ-loop Inv-loop2 μ-loop2
+unfolding soundState
+returns-9 c =
+    let b = c .before .before .before in
+    sym
+    (all-false (soundTests (passing b)) 9
+    (decided-false _ (listed (b .loop2 .inv) (omega arith) _ (c .before .sound .ensures)) (c .if9 .taken)))
+
+returns-10 : tie.Need-returns-10 Inv-loop μ-loop Inv-loop2 μ-loop2
+unfolding soundState
+returns-10 c =
+    let b = c .before .before .before in
+    let s = passing b in
+    let h = b .loop2 .inv in
+    let g : s .header .n ≤ b .loop2 .i = omega arith in
+    let l = b .before .before .before .before .before .before .before in
+    let n = bounds l in
+    let e = l .before .before in
+    let t : s .now ≤ lastTime = omega (arith, e .if4 .left) in
+    by-last (soundTests s) (timed h g)
+    (le-leb _ _ (e .before .before .before .before .before .if1 .left)
+    and le-leb (s .header .n) mostThreads (h .few)
+    and le-leb _ _ (e .before .if3 .left)
+    and le-leb (s .now) lastTime t
+    and eq-eqb (length (s .threads)) 32 (h .many)
+    and eq-eqb (length (s .counts)) 32 (omega arith)
+    and eq-eqb (length (s .dues)) 256 (n .dues)
+    and eq-eqb (length (s .amounts)) 256 (n .amounts)
+    and every h g
+    and decided-true _ (listed h g _ (c .before .sound .ensures)) (c .if9 .left)
+    and tt)
 
 pub sound-parts-spec : {M : Type 1} → statement M
 sound-parts-spec =
@@ -281,20 +340,36 @@ sound-parts-spec =
     (tie.spec
     Inv-loop
     μ-loop
-    frame-holds-requires
+    Inv-loop2
+    μ-loop2
     returns
-    sub-left
+    returns-2
+    returns-3
+    returns-4
+    cast-n
     loop-holds
     mul-t
     array-copy-out-t
-    thread-fits-requires
-    returns-2
+    element-copy-out-no-thread
+    no-thread-requires
+    returns-5
+    add-k
+    loop-less
+    loop-again
+    no-slots-requires
+    returns-6
+    loop2-holds
+    mul-t-2
+    array-copy-out-t-2
+    thread-holds-requires
+    returns-7
+    returns-8
     element-copy-out-assigned-place
     assigned-place-requires
     array-write-places
-    sub-left-2
     add-i
-    loop-less
-    loop-again
-    closes-requires
-    returns-3)
+    loop2-less
+    loop2-again
+    sound-requires
+    returns-9
+    returns-10)
