@@ -1,4 +1,6 @@
 // One sporadic account: a server and its pending entries. What a rule does to it is its Effect applied, by value. No thread, no list.
+#![tactic(auto)]
+
 ghost use Rattle.std.specs.Prelude.{◌≡◌};
 ghost use Rattle.entries.specs.Entries.{Room};
 ghost use Rattle.account.specs.Rules.{applied, outcome, Schedulable, blocking, waking};
@@ -8,21 +10,21 @@ use records::Parameters;
 use sporadic::{Effect, Place, Server};
 
 // The first `count` slots hold the pending replenishments in order of their due times; the others hold 0.
-#[derive(Drop)]
+#[derive(Clone, Copy)]
 pub struct Pending {
     pub count: u8,
     pub dues: [u64; ENTRIES],
     pub amounts: [u64; ENTRIES],
 }
 
-#[derive(Drop)]
+#[derive(Clone, Copy)]
 pub struct Account {
     pub server: Server,
     pub pending: Pending,
 }
 
 // A rule's answer: the account, and where the thread goes.
-#[derive(Drop)]
+#[derive(Clone, Copy)]
 pub struct Outcome {
     pub account: Account,
     pub place: Place,

@@ -1,1 +1,3 @@
 // What keeps an account sound, rule by rule. No code.
+
+#![tactic(auto)]

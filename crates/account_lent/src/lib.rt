@@ -1,4 +1,6 @@
 // The test that one sporadic account is sound, for any contents, where its slots are lent. The definitions stand in account/specs/Sound.
+#![tactic(auto)]
+
 ghost use Rattle.std.specs.Prelude.{◌≡◌, false, cond, length};
 ghost use Rattle.base.specs.Tests.{all};
 ghost use Rattle.sporadic.specs.Rules.{at_upper};

@@ -1,4 +1,6 @@
 // The account that new parameters bring, at opening and at a set: a fresh one, none, or the old one carried over. No thread, no list.
+#![tactic(auto)]
+
 ghost use Rattle.std.specs.Prelude.{◌≡◌, ◌<◌};
 ghost use Rattle.account.specs.Account.{unused_account, fresh_account, new_account};
 ghost use Rattle.account.specs.Carry.{carried, set_account};

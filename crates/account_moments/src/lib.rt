@@ -1,4 +1,6 @@
 // The moments of an account: when its first replenishment is due, and its limit is reached. What is due comes back in `account_returns`.
+#![tactic(auto)]
+
 ghost use Rattle.std.specs.Prelude.{◌≡◌};
 ghost use Rattle.sporadic.specs.Rules.{limit_effect};
 ghost use Rattle.account.specs.Account.{first_due};

@@ -1,4 +1,6 @@
 // What is due comes back to an account.
+#![tactic(auto)]
+
 ghost use Rattle.std.specs.Prelude.{◌≡◌};
 ghost use Rattle.account.specs.Rules.{first_is_due, return_first, returned, returning};
 

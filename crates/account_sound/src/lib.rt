@@ -1,4 +1,6 @@
 // The test that one sporadic account is sound, for any values of its fields. The definitions stand in account/specs/Sound.
+#![tactic(auto)]
+
 ghost use Rattle.std.specs.Prelude.{◌≡◌};
 ghost use Rattle.account.specs.Sound.{sound_at};
 

@@ -1,6 +1,8 @@
 // Runs stored cases of the account rules and prints each account, for comparison with the file stdout.
 // A line: capacity, U, activation time, pending count, then due and amount of each pending replenishment, `|`,
 // 1 where the account is sound else 0, and where the thread goes: 0 stays, 1 low, 2 low then upper, 3 upper.
+#![tactic(auto)]
+
 use account::{Account, Outcome, Pending};
 use libc::STDOUT_FILENO;
 use records::Parameters;

@@ -1,4 +1,6 @@
 // The answer that opening and events give. The state goes as a core by value with its slots lent.
+#![tactic(auto)]
+
 ghost use Rattle.std.specs.Prelude.{◌≡◌};
 ghost use Rattle.answers.specs.Answer.{parts_of};
 
@@ -6,7 +8,7 @@ use state::Core;
 
 // Status, the running thread or 255, the next moment or 0, and the state without its slots.
 #[repr(C)]
-#[derive(Drop)]
+#[derive(Clone, Copy)]
 pub struct Answer {
     pub status: u8,
     pub running: u8,
@@ -16,7 +18,7 @@ pub struct Answer {
 
 // The answer to an event without its state, for a state that is lent: status, the running thread or 255, the next moment or 0.
 #[repr(C)]
-#[derive(Drop)]
+#[derive(Clone, Copy)]
 pub struct Reply {
     pub status: u8,
     pub running: u8,
@@ -25,7 +27,7 @@ pub struct Reply {
 
 // The state after an event, without its slots, and the reply.
 #[repr(C)]
-#[derive(Drop)]
+#[derive(Clone, Copy)]
 pub struct Done {
     pub core: Core,
     pub reply: Reply,

@@ -1,4 +1,6 @@
 // What any crate may use: the status numbers, and a byte as an index. No rule.
+#![tactic(auto)]
+
 ghost use Rattle.std.specs.Prelude.{◌≡◌};
 
 // The status numbers in the order of 01's table; 0 is accepted.

@@ -2,6 +2,8 @@
 //
 // A struct is laid out as C lays it out, a lent `Core` is a pointer to one, and a lent array is a pointer to its first number. It has no
 // `requires`: any values may be handed in, and bad ones get their status.
+#![tactic(auto)]
+
 ghost use Rattle.std.specs.Prelude.{◌≡◌};
 ghost use Rattle.passing.specs.Sequence.{answer};
 ghost use Rattle.state.specs.Updates.{whole};

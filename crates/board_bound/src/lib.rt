@@ -1,6 +1,8 @@
 // The bound by which a sweep is planned for programs in other languages: a static library's exported function, beside those of `board`.
 //
 // A struct is laid out as C lays it out. It has no `requires`: any parameters and any length may be handed in.
+#![tactic(auto)]
+
 ghost use Rattle.std.specs.Prelude.{◌≡◌};
 ghost use Rattle.bound.specs.Most.{most_of};
 

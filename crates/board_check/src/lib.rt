@@ -3,6 +3,8 @@
 //
 // A struct is laid out as C lays it out, and a slice is a pointer and then a length.
 // It has no `requires`: any bytes may be handed in as a trace and as a listing.
+#![tactic(auto)]
+
 ghost use Rattle.std.specs.Prelude.{◌≡◌};
 ghost use Rattle.listing_check.specs.Verdict.{verdict_of, checked_of};
 

@@ -2,6 +2,8 @@
 // a second caller of the executive's event, and each would copy the state.
 //
 // The state is lent as for `thawonlai_event`. It has no `requires`: any values may be handed in, and bad ones get their status.
+#![tactic(auto)]
+
 ghost use Rattle.std.specs.Prelude.{◌≡◌};
 ghost use Rattle.state.specs.Updates.{whole};
 ghost use Rattle.answers.specs.Answer.{replied, done};

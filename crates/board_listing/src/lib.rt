@@ -1,5 +1,7 @@
 // The listing of a trace file for programs in other languages: a static library's exported function. A slice is a pointer and then a length.
 // It has no `requires`: any file and any buffer may be handed in.
+#![tactic(auto)]
+
 ghost use Rattle.std.specs.Prelude.{◌≡◌, ◌≤◌, length};
 ghost use Rattle.listing.specs.Listing.{listed_of, buffer_of, largest};
 

@@ -2,6 +2,8 @@
 //
 // A struct is laid out as C lays it out, a lent `Core` is a pointer to one, and a lent array is a pointer to its first number. None has
 // a `requires`: any values may be handed in, and bad ones get their status.
+#![tactic(auto)]
+
 ghost use Rattle.std.specs.Prelude.{◌≡◌, cond};
 ghost use Rattle.state.specs.Sound.{sound_state};
 ghost use Rattle.state.specs.Updates.{whole};
@@ -15,7 +17,7 @@ use state::Core;
 
 // A thread table: an array on its own is not passed by value in C.
 #[repr(C)]
-#[derive(Drop)]
+#[derive(Clone, Copy)]
 pub struct Table {
     pub threads: [Parameters; THREADS],
 }

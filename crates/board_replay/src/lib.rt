@@ -1,5 +1,7 @@
 // A replay of some of a trace file's events for programs in other languages. A library of its own: beside a listing's it would be a
 // second caller of what steps a file, and cost the listing its stack.
+#![tactic(auto)]
+
 ghost use Rattle.std.specs.Prelude.{◌≡◌};
 ghost use Rattle.answers.specs.Answer.{answer_of};
 ghost use Rattle.board_replay.specs.Replayed.{replay_of};

@@ -2,6 +2,8 @@
 //
 // A struct is laid out as C lays it out, and an array is a pointer to its first element: `counts` and `dues` are those of a state.
 // It has no `requires`: any counts and entries may be handed in, and a number of threads out of range gets its status.
+#![tactic(auto)]
+
 ghost use Rattle.std.specs.Prelude.{◌≡◌, ◌<◌};
 ghost use Rattle.board_search.specs.Answer.{found_of, refused_search, search_answer};
 
@@ -12,7 +14,7 @@ use rows::SLOTS;
 
 // The status, and the first of the dues with the lowest thread that has it; thread 32 for none, then due 0.
 #[repr(C)]
-#[derive(Drop)]
+#[derive(Clone, Copy)]
 pub struct NextDue {
     pub status: u8,
     pub thread: u8,

@@ -2,6 +2,8 @@
 //
 // A struct is laid out as C lays it out, a lent `Core` is a pointer to one, and a lent array is a pointer to its first number. C has no
 // enum that holds values, so each answer goes as its numbers. None has a `requires`: any state and any thread number may be handed in.
+#![tactic(auto)]
+
 ghost use Rattle.std.specs.Prelude.{◌≡◌};
 ghost use Rattle.state.specs.Updates.{whole};
 ghost use Rattle.shares.specs.Shares.{share_of};
@@ -15,7 +17,7 @@ use state::Core;
 
 // The answer in numbers: 0 a share, 1 no time, 2 a refusal; then the refusal's number and the share. What doesn't apply is 0.
 #[repr(C)]
-#[derive(Drop)]
+#[derive(Clone, Copy)]
 pub struct ShareReply {
     pub form: u8,
     pub status: u8,
@@ -24,7 +26,7 @@ pub struct ShareReply {
 
 // The same of the summary.
 #[repr(C)]
-#[derive(Drop)]
+#[derive(Clone, Copy)]
 pub struct SummaryReply {
     pub form: u8,
     pub status: u8,

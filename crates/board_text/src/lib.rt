@@ -2,6 +2,8 @@
 //
 // A struct is laid out as C lays it out, and a slice is a pointer and then a length.
 // Neither has a `requires`: any bytes and any buffer may be handed in, and bad ones get their status.
+#![tactic(auto)]
+
 ghost use Rattle.std.specs.Prelude.{◌≡◌, length};
 ghost use Rattle.trace_making.specs.FromText.{from_text, from_text_out};
 ghost use Rattle.trace_telling.specs.ToText.{to_text, to_text_out};

@@ -2,6 +2,8 @@
 //
 // A struct is laid out as C lays it out, and a slice is a pointer and then a length.
 // None has a `requires`: any values may be handed in, and bad ones get their status.
+#![tactic(auto)]
+
 ghost use Rattle.std.specs.Prelude.{◌≡◌, length};
 ghost use Rattle.trace.specs.Write.{written_of, out_of, copied_of, copy_of};
 ghost use Rattle.board_trace.specs.Found.{found_in};
@@ -12,7 +14,7 @@ use trace_records::EVENTS;
 
 // What a read finds: the status, the number of threads, the start time and the number of events.
 #[repr(C)]
-#[derive(Drop)]
+#[derive(Clone, Copy)]
 pub struct Found {
     pub status: u8,
     pub n: u32,
@@ -22,13 +24,13 @@ pub struct Found {
 
 // A thread table and the events of a file: an array on its own is not passed by value in C.
 #[repr(C)]
-#[derive(Drop)]
+#[derive(Clone, Copy)]
 pub struct Table {
     pub threads: [Parameters; THREADS],
 }
 
 #[repr(C)]
-#[derive(Drop)]
+#[derive(Clone, Copy)]
 pub struct Events {
     pub events: [Event; EVENTS],
 }

@@ -1,4 +1,6 @@
 // The most ticks that a sporadic thread can take at its upper priority, by its parameters, for a person who plans what is left beside it.
+#![tactic(auto)]
+
 ghost use Rattle.std.specs.Prelude.{◌≡◌, true};
 ghost use Rattle.ledger.specs.Bound.{most_upper};
 ghost use Rattle.bound.specs.Most.{sporadic_thread, most_of};
@@ -8,7 +10,7 @@ use records::Parameters;
 
 // The status, and the most ticks; 0 where the status is not 0.
 #[repr(C)]
-#[derive(Drop)]
+#[derive(Clone, Copy)]
 pub struct Most {
     pub status: u8,
     pub ticks: u64,

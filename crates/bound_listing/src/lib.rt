@@ -1,4 +1,6 @@
 // What the sporadic threads of a trace's table can take at their upper priority, as text.
+#![tactic(auto)]
+
 ghost use Rattle.std.specs.Prelude.{◌++◌, ◌+◌, ◌≤◌, length, replicate};
 ghost use Rattle.text.specs.Fields.{field, space, newline};
 ghost use Rattle.text.specs.Placed.{Put};

@@ -1,6 +1,8 @@
 // Writes what the sporadic threads of a trace's table can take at their upper priority in so many ticks, and says how it ended: done, refused
 // where there is the line of a refusal alone, or failed where the second argument is no number of ticks, the trace can't be read or the
 // lines can't be written.
+#![tactic(auto)]
+
 use bound_listing::LARGEST;
 use libc::{STDERR_FILENO, STDOUT_FILENO};
 
@@ -8,7 +10,7 @@ use libc::{STDERR_FILENO, STDOUT_FILENO};
 const MOST: u64 = 18446744073709551615;
 
 // Whether an argument is a number of ticks, and how many.
-#[derive(Drop)]
+#[derive(Clone, Copy)]
 struct Length {
     right: bool,
     ticks: u64,

@@ -1,4 +1,6 @@
 // A set to sporadic of a thread that is sporadic already: its server under the new parameters, and when that is refused.
+#![tactic(auto)]
+
 ghost use Rattle.std.specs.Prelude.{◌≡◌};
 ghost use Rattle.sporadic.specs.Carry.{
   carried_capacity,

@@ -1,5 +1,7 @@
 // Says whether a listing is that of a trace: `yes`; or `line` and the number of the first line that differs, is missing or is surplus, and
 // then both lines on the standard error; or `refused` and the number of the trace's refusal.
+#![tactic(auto)]
+
 ghost use Rattle.std.specs.Prelude.{◌≡◌};
 ghost use Rattle.listing_check.specs.Verdict.{verdict_of, checked_of};
 

@@ -1,5 +1,7 @@
 // What every program that `bin/thawonlai` starts does: it reads the inputs that its arguments name, and says how it ended. A program
 // has no exit status of its own, so it writes one to descriptor 3, and `bin/thawonlai` exits with it.
+#![tactic(auto)]
+
 ghost use Rattle.io.specs.Counts.{IsPrefixLen};
 
 use libc::{STDERR_FILENO, STDIN_FILENO};
@@ -14,7 +16,7 @@ pub const FAILED: u8 = 2;
 const STATUS_FILENO: i32 = 3;
 
 // Whether an input was read without a failure, and how many bytes of it.
-#[derive(Drop)]
+#[derive(Clone, Copy)]
 pub struct Input {
     pub whole: bool,
     pub length: usize,

@@ -1,5 +1,7 @@
 // Events whose time is a reading of the board's counter, which is 32 bits wide. The state goes as for an event: a core by value with
 // its slots lent.
+#![tactic(auto)]
+
 ghost use Rattle.std.specs.Prelude.{◌≡◌};
 ghost use Rattle.state.specs.Updates.{whole};
 ghost use Rattle.answers.specs.Answer.{answer_of};
@@ -17,7 +19,7 @@ const WRAPS_AT: u64 = 4294967296;
 
 // An event with a reading of the counter for its time.
 #[repr(C)]
-#[derive(Drop)]
+#[derive(Clone, Copy)]
 pub struct CounterEvent {
     pub reading: u32,
     pub kind: u8,

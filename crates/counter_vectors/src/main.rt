@@ -1,6 +1,8 @@
 // Runs stored cases of events at a reading of the counter: prints the time now and the reading; the status, the running thread and the
 // next moment; the time then, and the four numbers that are told of thread 0. The expected output is the file stdout, written from 01 and
 // 02 alone.
+#![tactic(auto)]
+
 use counter::CounterEvent;
 use libc::STDOUT_FILENO;
 use records::{Header, Parameters, THREADS};
@@ -57,7 +59,7 @@ fn threads(flag: u32) -> [Parameters; THREADS] {
 }
 
 // What is printed of an answer.
-#[derive(Drop)]
+#[derive(Clone, Copy)]
 struct Shown {
     status: u8,
     running: u8,

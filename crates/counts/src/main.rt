@@ -1,5 +1,7 @@
 // Writes what happened at each event of a trace, event by event, and the sums at the end; and says how it ended: done, refused where the
 // trace can't be replayed, or failed where it can't be read or the lines can't be written.
+#![tactic(auto)]
+
 ghost use Rattle.std.specs.Prelude.{◌≡◌, true, cond, ◌≤◌, eqb, length};
 ghost use Rattle.records.specs.Ranges.{most_threads};
 ghost use Rattle.trace_records.specs.Layout.{most_events};
@@ -52,7 +54,7 @@ fn write_sums(out: &mut [u8], threads: usize, sums: &[u64; NUMBERS]) -> u8
 }
 
 // Whether the lines of the events were written, and the state that the last event left, without its slots.
-#[derive(Drop)]
+#[derive(Clone, Copy)]
 struct Ended {
     written: bool,
     core: Core,

@@ -1,4 +1,6 @@
 // The numbers of an event added to the sums of a trace.
+#![tactic(auto)]
+
 ghost use Rattle.std.specs.Prelude.{◌≡◌};
 ghost use Rattle.counts_text.specs.Sums.{added, Addable};
 

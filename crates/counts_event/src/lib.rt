@@ -1,4 +1,6 @@
 // What happened at an event of a trace, as lines in a lent buffer.
+#![tactic(auto)]
+
 ghost use Rattle.std.specs.Prelude.{◌≡◌, ◌+◌, ◌<◌, ◌≤◌, length};
 ghost use Rattle.records.specs.Ranges.{most_threads};
 ghost use Rattle.trace_records.specs.Layout.{most_events};

@@ -1,4 +1,6 @@
 // What happened at the events of a file, event by event: the lines of each in a lent buffer, and the sums so far.
+#![tactic(auto)]
+
 ghost use Rattle.std.specs.Prelude.{◌≡◌, true, ◌+◌, ◌<◌, ◌≤◌, length};
 ghost use Rattle.trace_records.specs.Layout.{most_events};
 ghost use Rattle.state.specs.Sound.{sound_state};
@@ -15,7 +17,7 @@ use state::Core;
 
 // What a step answers: whether there was an event, the offset after it, how many bytes its lines have, and the state that it left, without
 // its slots. At the end the offset and the state are as given.
-#[derive(Drop)]
+#[derive(Clone, Copy)]
 pub struct Counted {
     pub more: bool,
     pub offset: usize,

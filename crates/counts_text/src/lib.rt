@@ -1,4 +1,6 @@
 // What happened to a thread as a line in a lent buffer, and the lines of the sums. Each function answers the offset after what it put.
+#![tactic(auto)]
+
 ghost use Rattle.std.specs.Prelude.{◌+◌, ◌<◌, ◌≤◌, length};
 ghost use Rattle.records.specs.Ranges.{most_threads};
 ghost use Rattle.text.specs.Placed.{Put};

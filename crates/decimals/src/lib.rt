@@ -1,6 +1,8 @@
 // A float from 2^-50 to 1 in decimal: 17 significant digits of its own value, correctly rounded, which read back as that float.
 //
 // They are made from the float's bits, which are its exact value, by whole numbers alone.
+#![tactic(auto)]
+
 ghost use Rattle.std.specs.Prelude.{◌≡◌, length};
 ghost use Prim.Native.Nat.{◌+◌, ◌*◌, ◌<◌, ◌≤◌, compare};
 ghost use Rattle.std.specs.Float.Ieee.{nearest, Positive.num, Positive.den};
@@ -9,14 +11,14 @@ ghost use Rattle.decimals.specs.Decimals.{enough, InUnit, decimals_of, Within, S
 ghost use Rattle.decimals.specs.Private.{limb, unit, Split, joined, goes_on};
 
 // The digits as one whole number, and how many of them stand after the point.
-#[derive(Drop)]
+#[derive(Clone, Copy)]
 pub struct Decimals {
     pub digits: u64,
     pub places: u64,
 }
 
 // A fraction in two limbs of 52 bits: its units are 2^-104.
-#[derive(Drop)]
+#[derive(Clone, Copy)]
 struct Limbs {
     high: u64,
     low: u64,

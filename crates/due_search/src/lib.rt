@@ -2,6 +2,8 @@
 //
 // It goes thread by thread, or through the word of those that have something pending: its lowest bit is taken off until none is left. Who
 // searches again may keep the word.
+#![tactic(auto)]
+
 ghost use Rattle.std.specs.Prelude.{◌≡◌, cond, ◌-◌, ◌<◌, ◌≤◌, ltb};
 ghost use Rattle.std.specs.Int.Bits.{bit_and};
 ghost use Rattle.std.specs.Int.Count.{count_trailing_zeros};
@@ -17,7 +19,7 @@ use rows::SLOTS;
 const FIRST: usize = 0;
 
 // The first of the dues, and the lowest thread that has it; thread THREADS for none.
-#[derive(Drop)]
+#[derive(Clone, Copy)]
 pub struct Due {
     pub due: u64,
     pub thread: usize,

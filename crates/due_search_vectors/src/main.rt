@@ -1,11 +1,13 @@
 // Runs stored cases of the search for the next due, over counts and entries that no sound state has too, and prints N, the thread and
 // the due that is found. The expected output is the file stdout, written from 02 E2 alone.
+#![tactic(auto)]
+
 use account::ENTRIES;
 use libc::STDOUT_FILENO;
 use records::THREADS;
 use rows::SLOTS;
 
-#[derive(Drop)]
+#[derive(Clone, Copy)]
 struct Case {
     counts: [u8; THREADS],
     dues: [u64; SLOTS],

@@ -1,4 +1,6 @@
 // What each rule of a sporadic server does, as an Effect: the limit, a block, and what comes back. No entries, no thread, no list.
+#![tactic(auto)]
+
 ghost use Rattle.std.specs.Prelude.{◌≡◌, not, ◌&&◌, ◌+◌, ◌<◌, ◌^◌, min, leb};
 ghost use Rattle.sporadic.specs.Rules.{
   replenished,

@@ -1,4 +1,6 @@
 // The slots of the pending entries: how many there are after a rule, and the first one goes. How one comes stands in `insertion`.
+#![tactic(auto)]
+
 ghost use Rattle.std.specs.Prelude.{◌≡◌};
 ghost use Rattle.entries.specs.Entries.{without_first, count_after, Room};
 

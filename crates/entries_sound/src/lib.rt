@@ -1,4 +1,6 @@
 // What soundness asks of an account's pending entries, for any contents: sums are compared by differences, so that none wraps.
+#![tactic(auto)]
+
 ghost use Rattle.std.specs.Prelude.{◌≡◌, ◌+◌, [], ◌∷◌, length};
 ghost use Rattle.base.specs.Tests.{all};
 ghost use Rattle.account.specs.Sound.{amount_tests, due_tests, last_due};

@@ -23,7 +23,7 @@ use rows::Slots;
 use thread::Thread;
 
 // What an event leaves to be put into the core: the thread with its server, and the lists that it leaves and joins, 0 for none.
-#[derive(Drop)]
+#[derive(Clone, Copy)]
 pub struct Left {
     pub thread: Thread,
     pub from: u8,

@@ -19,7 +19,7 @@ fn silent(quiet: bool, kind: u8) -> bool
 }
 
 // Whether there is one, and it with the offset after it; where there is none, the event and the offset that were given.
-#[derive(Drop)]
+#[derive(Clone, Copy)]
 pub struct Found {
     pub more: bool,
     pub event: Event,

@@ -1,4 +1,6 @@
 // The executive: events and their answers. The state goes as a core by value with its slots lent.
+#![tactic(auto)]
+
 ghost use Rattle.std.specs.Prelude.{◌≡◌, true, false, ◌*◌, length, replicate};
 ghost use Rattle.records.specs.Ranges.{most_threads};
 ghost use Rattle.reports.specs.Tallies.{per_thread};

@@ -10,7 +10,7 @@ use thread::Thread;
 
 // How an event stands: the status that was found for it, whether that is its answer's, whether 15 is still to be judged, and whether
 // no moment has fallen up to it, so that only a block may have told something.
-#[derive(Drop)]
+#[derive(Clone, Copy)]
 pub struct Stand {
     pub status: u8,
     pub done: bool,

@@ -2,7 +2,7 @@
 
 // The first byte of the command, 0 before it; where the line and the command start; the numbers before `=`, from 0 on,
 // and after it, from 15 on; the place of the number that is read, or of the next one.
-#[derive(Drop)]
+#[derive(Clone, Copy)]
 pub struct Line {
     pub op: u8,
     pub from: usize,

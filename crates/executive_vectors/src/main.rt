@@ -1,4 +1,6 @@
 // Runs the cases of the standard input, and compares each with what 01 gives. The head of the file `stdin` says what its lines mean.
+#![tactic(auto)]
+
 mod change; // change.rt: a state with one field changed
 mod compare; // compare.rt: two states compared field by field
 mod line; // line.rt: a line of the input

@@ -1,7 +1,7 @@
 // A line for each case: its name and `right`, or `WRONG` with the numbers that came and those that were expected.
 use libc::STDOUT_FILENO;
 
-#[derive(Drop)]
+#[derive(Clone, Copy)]
 pub struct Tally {
     pub cases: u32,
     pub wrong: u32,

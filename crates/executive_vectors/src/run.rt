@@ -8,7 +8,7 @@ use records::{Event, Header, Parameters, THREADS};
 use state::State;
 
 // The cases so far, the table of the next opening, the state that events are given to, and a state that is held beside it.
-#[derive(Drop)]
+#[derive(Clone, Copy)]
 pub struct Run {
     pub tally: Tally,
     pub table: [Parameters; THREADS],
@@ -17,7 +17,7 @@ pub struct Run {
 }
 
 // What a case gave: four numbers, and the state after it.
-#[derive(Drop)]
+#[derive(Clone, Copy)]
 struct Outcome {
     got: [u64; 4],
     state: State,

@@ -6,7 +6,7 @@ use rows::SLOTS;
 use state::{Core, State};
 
 // An answer with its state whole.
-#[derive(Drop)]
+#[derive(Clone, Copy)]
 pub struct Answered {
     pub status: u8,
     pub running: u8,

@@ -1,4 +1,6 @@
 // An entry comes among the pending ones, in due order.
+#![tactic(auto)]
+
 ghost use Rattle.std.specs.Prelude.{◌≡◌, ◌<◌, ◌≤◌};
 ghost use Rattle.entries.specs.Entries.{entries, slot_for, inserted, slots_after, Room};
 

@@ -1,4 +1,6 @@
 // The listing of a trace in a lent buffer.
+#![tactic(auto)]
+
 ghost use Rattle.std.specs.Prelude.{◌≡◌, ◌≤◌, length};
 ghost use Rattle.listing.specs.Listing.{listed_of, buffer_of, largest};
 
@@ -12,7 +14,7 @@ pub const LARGEST: usize = 53600;
 
 // 0 and how many bytes were written, or 12 and 0 where the buffer is too short.
 #[repr(C)]
-#[derive(Drop)]
+#[derive(Clone, Copy)]
 pub struct Listed {
     pub status: u8,
     pub length: usize,

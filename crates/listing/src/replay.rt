@@ -17,7 +17,7 @@ use state::Core;
 use trace_records::EVENTS;
 
 // Where the lines of the events end, and the state that the last event left, without its slots.
-#[derive(Drop)]
+#[derive(Clone, Copy)]
 struct Ended {
     at: usize,
     core: Core,

@@ -1,10 +1,12 @@
 // What is said of another kernel's listing of a trace, and the same in numbers.
+#![tactic(auto)]
+
 ghost use Rattle.std.specs.Prelude.{◌≡◌};
 ghost use Rattle.listing_check.specs.Verdict.{checked_of};
 
 // What is said of a listing: it is ours; the number, from 1, of the first line that differs, is missing or is surplus; or the number by
 // which the trace itself is refused.
-#[derive(Drop)]
+#[derive(Clone, Copy)]
 pub enum Verdict {
     Same,
     Differs(usize),
@@ -13,7 +15,7 @@ pub enum Verdict {
 
 // A verdict in numbers: 0 yes, 1 a line, 2 a refusal; then the refusal's number and the line's. What doesn't apply is 0.
 #[repr(C)]
-#[derive(Drop)]
+#[derive(Clone, Copy)]
 pub struct Checked {
     pub verdict: u8,
     pub status: u8,

@@ -1,4 +1,6 @@
 // Another kernel's listing of a trace, held to ours.
+#![tactic(auto)]
+
 ghost use Rattle.std.specs.Prelude.{◌≡◌};
 ghost use Rattle.text_lines.specs.Lines.{first_difference};
 ghost use Rattle.listing.specs.Listing.{listing_of};

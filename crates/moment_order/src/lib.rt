@@ -1,4 +1,6 @@
 // The order of moments, of which 0 is none: the earlier of two, and whether one falls by a time.
+#![tactic(auto)]
+
 ghost use Rattle.std.specs.Prelude.{◌≡◌};
 ghost use Rattle.passing.specs.Time.{due_by};
 ghost use Rattle.ticks.specs.Running.{earlier};

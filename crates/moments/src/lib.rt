@@ -1,4 +1,6 @@
 // The passing of time over the executive's state.
+#![tactic(auto)]
+
 ghost use Rattle.std.specs.Prelude.{◌≡◌, true, false, ◌+◌, ◌*◌, ◌<◌, ◌≤◌, ◌^◌, eqb, length, replicate};
 ghost use Rattle.records.specs.Ranges.{most_threads, last_time, longest_step};
 ghost use Rattle.account.specs.Rules.{Room, slot_for, slots_after, without_first};

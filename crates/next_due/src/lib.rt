@@ -1,6 +1,8 @@
 // The next due: searched for in any counts and dues, and kept where an entry came.
 //
 // Few threads are looked at one by one, since the word of those that have something pending costs more to make.
+#![tactic(auto)]
+
 ghost use Rattle.std.specs.Prelude.{◌≡◌, ◌-◌, ◌≤◌, ◌^◌};
 ghost use Rattle.std.specs.Int.Bits.{bit_and};
 ghost use Rattle.records.specs.Ranges.{most_threads};

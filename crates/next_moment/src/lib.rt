@@ -1,4 +1,6 @@
 // When the next moment is: the earlier of the running thread's limit and the next due.
+#![tactic(auto)]
+
 ghost use Rattle.std.specs.Prelude.{◌≡◌, cond, ◌+◌, ◌<◌, ◌≤◌, ◌^◌, eqb};
 ghost use Rattle.records.specs.Ranges.{most_threads};
 ghost use Rattle.due_search.specs.Search.{next_due};

@@ -1,4 +1,6 @@
 // Opening: whether a table may be opened, the state that its threads give, and the answer.
+#![tactic(auto)]
+
 ghost use Rattle.std.specs.Prelude.{◌≡◌, true, false, cond, ◌&&◌, ◌<◌, ◌≤◌, leb, eqb, length, get_or, replicate};
 ghost use Rattle.base.specs.Tests.{below};
 ghost use Rattle.records.specs.Ranges.{most_threads, most_replenishments, in_range, no_parameters};

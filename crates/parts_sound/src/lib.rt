@@ -1,4 +1,6 @@
 // The test that a state of these parts is sound, for any contents: thread by thread, then the lists, the word and the run times.
+#![tactic(auto)]
+
 ghost use Rattle.std.specs.Prelude.{◌≡◌, length};
 ghost use Rattle.records.specs.Ranges.{most_threads};
 ghost use Rattle.rows.specs.Rows.{all_slots};

@@ -1,4 +1,6 @@
 // A thread's pending replenishments as one value: read from its rows, and written to them.
+#![tactic(auto)]
+
 ghost use Rattle.std.specs.Prelude.{◌≡◌, ◌<◌, length};
 ghost use Rattle.records.specs.Ranges.{most_threads};
 ghost use Rattle.rows.specs.Rows.{all_slots, with_slots, pending_of};

@@ -1,4 +1,6 @@
 // The word of the threads that have something pending, a bit for each: made from their counts, and kept where one count changes.
+#![tactic(auto)]
+
 ghost use Rattle.std.specs.Prelude.{◌≡◌, cond, ◌<◌, ◌^◌, eqb};
 ghost use Rattle.records.specs.Ranges.{most_threads};
 ghost use Rattle.due_search.specs.Word.{PendingWord, WordAfter};

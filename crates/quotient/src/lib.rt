@@ -1,4 +1,6 @@
 // A time over another as an f64: each converted exactly, and one division.
+#![tactic(auto)]
+
 ghost use Rattle.std.specs.Prelude.{◌≡◌, ◌≤◌};
 ghost use Rattle.records.specs.Ranges.{last_time};
 ghost use Rattle.quotient.specs.Quotient.{quotient};

@@ -2,6 +2,8 @@
 //
 // All lists stand in one array, a row for each. The row of list p starts at (p - 1) * ROW_BYTES: the list's length, then
 // its thread numbers from head to tail, then zeros. The word has bit p - 1 set exactly when list p holds a thread.
+#![tactic(auto)]
+
 ghost use Rattle.std.specs.Prelude.{◌≡◌, ◌-◌, ◌^◌, ◌≤◌, replicate};
 ghost use Rattle.records.specs.Ranges.{highest_priority};
 ghost use Rattle.ready.specs.Lists.{list_bytes, start, head_of};

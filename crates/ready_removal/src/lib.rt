@@ -1,4 +1,6 @@
 // A gap in a list is closed: where a thread leaves it, and where the head becomes the tail.
+#![tactic(auto)]
+
 ghost use Rattle.std.specs.Prelude.{◌≡◌, ◌+◌, ◌≤◌, ◌<◌, length, take, drop};
 ghost use Rattle.ready.specs.Lists.{list_bytes, head_of, removed, moved};
 ghost use Rattle.ready.specs.Word.{occupancy};

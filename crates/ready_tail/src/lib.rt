@@ -1,4 +1,6 @@
 // A thread becomes the tail of a list: one that stands in none, or one that leaves its list for it.
+#![tactic(auto)]
+
 ghost use Rattle.std.specs.Prelude.{◌≡◌};
 ghost use Rattle.ready.specs.Lists.{appended, moved};
 ghost use Rattle.ready.specs.Word.{occupancy};

@@ -1,4 +1,6 @@
 // The only line of a file that is refused (01 Replay 8), for the texts that are made of a file.
+#![tactic(auto)]
+
 ghost use Rattle.std.specs.Prelude.{◌≤◌, length};
 ghost use Rattle.text.specs.Placed.{Put};
 ghost use Rattle.listing.specs.Lines.{refused_line};

@@ -1,5 +1,7 @@
 // Writes the listing of a trace, and says how it ended: done, refused where the listing is the line of a refusal, or failed where the
 // trace can't be read or the listing can't be written.
+#![tactic(auto)]
+
 use libc::STDOUT_FILENO;
 
 // Writes the listing of a file.

@@ -1,4 +1,6 @@
 // How a program that replays a trace ends.
+#![tactic(auto)]
+
 ghost use Rattle.std.specs.Prelude.{◌≡◌, cond, eqb};
 ghost use Rattle.replay_steps.specs.FileSteps.{begun_of};
 

@@ -1,6 +1,8 @@
 // Runs a stored file for each argument: the file is read and written again, and its listing is written out. Files 0 to 23 have every
 // kind of fault, 24 to 29 have filler bytes that are not 0, 30 and 31 are the longest, 32 to 51 have refused events among the
 // others, and in the rest every event is accepted.
+#![tactic(auto)]
+
 ghost use Rattle.io.specs.Counts.{IsPrefixLen};
 
 use libc::STDOUT_FILENO;

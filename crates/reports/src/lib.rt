@@ -1,4 +1,6 @@
 // What is told of the steps of the rules, as numbers in a lent array: thread i's four from i * PER_THREAD on.
+#![tactic(auto)]
+
 ghost use Rattle.std.specs.Prelude.{◌≡◌, ◌+◌, ◌*◌, ◌<◌, ◌^◌, length, get_or};
 ghost use Rattle.records.specs.Ranges.{most_threads};
 ghost use Rattle.reports.specs.Tallies.{tally, plus, back_tally, per_thread, more, more_of, Tellable};

@@ -1,4 +1,6 @@
 // One entry comes into a thread's rows of dues and amounts, or the first one goes: the rows are changed in their place.
+#![tactic(auto)]
+
 ghost use Rattle.std.specs.Prelude.{◌≡◌, true, false, ◌+◌, ◌-◌, ◌*◌, ◌<◌, ◌≤◌, length, get_or};
 ghost use Rattle.records.specs.Ranges.{most_threads};
 ghost use Rattle.entries.specs.Entries.{entries, without_first, slot_for, inserted};

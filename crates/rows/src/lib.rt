@@ -1,4 +1,6 @@
 // The pending replenishments of all threads: thread i's count, and its slots of dues and of amounts from i * ENTRIES on.
+#![tactic(auto)]
+
 ghost use Rattle.std.specs.Prelude.{◌≡◌, ◌<◌, length, replicate};
 ghost use Rattle.records.specs.Ranges.{most_threads};
 ghost use Rattle.rows.specs.Rows.{all_slots, slots_at, with_slots};

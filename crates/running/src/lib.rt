@@ -1,4 +1,6 @@
 // Who runs: the thread at the head of the highest list that holds one.
+#![tactic(auto)]
+
 ghost use Rattle.std.specs.Prelude.{◌≡◌, false, cond, eqb};
 ghost use Rattle.ready.specs.Lists.{head_of};
 ghost use Rattle.ready.specs.Word.{highest_of};

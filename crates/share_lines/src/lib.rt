@@ -1,4 +1,6 @@
 // The lines of a state's shares in a lent buffer: one of each kind, and all of them.
+#![tactic(auto)]
+
 ghost use Rattle.std.specs.Prelude.{[], ◌∷◌, ◌++◌, ◌≡◌, true, ◌+◌, ◌≤◌, length};
 ghost use Rattle.text.specs.Placed.{Put};
 ghost use Rattle.text.specs.Fields.{newline};

@@ -1,4 +1,6 @@
 // The shares at the end of a trace's replay, as text: for our program, and as a static library's exported function for other languages.
+#![tactic(auto)]
+
 ghost use Rattle.std.specs.Prelude.{◌≤◌, replicate};
 ghost use Rattle.text.specs.Placed.{Put};
 ghost use Rattle.share_listing.specs.ShareListing.{share_listing, largest};

@@ -1,6 +1,8 @@
 // The largest and the smallest share of the elapsed time, and the thread of each.
 //
 // Threads are compared by their totals, which are whole numbers: no float is compared.
+#![tactic(auto)]
+
 ghost use Rattle.std.specs.Prelude.{◌≡◌, ◌≤◌};
 ghost use Rattle.records.specs.Ranges.{most_threads};
 ghost use Rattle.state.specs.Updates.{whole};
@@ -14,7 +16,7 @@ use state::Core;
 use thread::Thread;
 
 // The largest and the smallest share, and the thread of each.
-#[derive(Drop)]
+#[derive(Clone, Copy)]
 pub struct Summary {
     pub largest: f64,
     pub largest_thread: u8,
@@ -23,7 +25,7 @@ pub struct Summary {
 }
 
 // The summary; none, where no time has passed; or the number by which it is refused.
-#[derive(Drop)]
+#[derive(Clone, Copy)]
 pub enum Summarized {
     Of(Summary),
     NoTime,
@@ -31,14 +33,14 @@ pub enum Summarized {
 }
 
 // A thread and its total.
-#[derive(Drop)]
+#[derive(Clone, Copy)]
 struct Leader {
     thread: u8,
     total: u64,
 }
 
 // The first thread with the most run time, and the first with the least.
-#[derive(Drop)]
+#[derive(Clone, Copy)]
 struct Leaders {
     most: Leader,
     least: Leader,

@@ -1,4 +1,6 @@
 // A thread's share of the elapsed time.
+#![tactic(auto)]
+
 ghost use Rattle.std.specs.Prelude.{◌≡◌};
 ghost use Rattle.state.specs.Updates.{whole};
 ghost use Rattle.shares.specs.Shares.{share_of};
@@ -8,7 +10,7 @@ use rows::Slots;
 use state::Core;
 
 // A thread's share; none, where no time has passed; or the number by which it is refused.
-#[derive(Drop)]
+#[derive(Clone, Copy)]
 pub enum Share {
     Of(f64),
     NoTime,

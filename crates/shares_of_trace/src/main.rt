@@ -1,5 +1,7 @@
 // Writes the shares at the end of a trace's replay, and says how it ended: done, refused where there is the line of a refusal alone, or
 // failed where the trace can't be read or the lines can't be written.
+#![tactic(auto)]
+
 use libc::STDOUT_FILENO;
 use share_listing::LARGEST;
 

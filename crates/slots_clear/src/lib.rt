@@ -1,4 +1,6 @@
 // Whether slots that are not in use hold no number. No account, no thread.
+#![tactic(auto)]
+
 ghost use Rattle.std.specs.Prelude.{◌≡◌, [], ◌∷◌, length};
 ghost use Rattle.base.specs.Tests.{all, zeros};
 

@@ -1,5 +1,7 @@
 // A sporadic server and what a rule can do to it (an Effect); when the assigned priority is the upper one, and charging. The code of the
 // rules stands above, in `effects` and `carrying`. No entries, no thread, no list.
+#![tactic(auto)]
+
 ghost use Rattle.std.specs.Prelude.{◌≡◌, ◌+◌, ◌<◌, ◌≤◌, ◌^◌};
 ghost use Rattle.sporadic.specs.Rules.{at_upper, charged};
 
@@ -7,7 +9,7 @@ use records::Parameters;
 
 // Capacity, the charged time that is not yet scheduled (01's U), and the activation time.
 #[repr(C)]
-#[derive(Drop)]
+#[derive(Clone, Copy)]
 pub struct Server {
     pub capacity: u64,
     pub used: u64,
@@ -15,7 +17,7 @@ pub struct Server {
 }
 
 // Where a rule sends the thread: Low and Upper are the tails of its two lists.
-#[derive(Drop)]
+#[derive(Clone, Copy)]
 pub enum Place {
     Stays,
     Low,
@@ -26,7 +28,7 @@ pub enum Place {
 // What a rule does, without the entries that were there: the server that it leaves; where the thread goes; the amount that
 // becomes pending, 0 for none, with its due time; the amount that came back, 0 for none; and whether that was the first
 // entry, which is then gone.
-#[derive(Drop)]
+#[derive(Clone, Copy)]
 pub struct Effect {
     pub server: Server,
     pub place: Place,

@@ -1,4 +1,6 @@
 // The executive's state, by value. When it is sound is defined here; `state_sound` tests it.
+#![tactic(auto)]
+
 use ready::LIST_BYTES;
 use records::{Header, THREADS};
 use rows::SLOTS;
@@ -8,7 +10,7 @@ use thread::Thread;
 // The lists of the priorities are the array of the crate `ready`. Every definition speaks of this record; in code it is a
 // `Core` by value and the two arrays of slots, lent.
 #[repr(C)]
-#[derive(Drop)]
+#[derive(Clone, Copy)]
 pub struct State {
     pub header: Header,
     pub now: u64,
@@ -23,7 +25,7 @@ pub struct State {
 
 // A state without its slots.
 #[repr(C)]
-#[derive(Drop)]
+#[derive(Clone, Copy)]
 pub struct Core {
     pub header: Header,
     pub now: u64,

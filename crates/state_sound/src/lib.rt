@@ -1,4 +1,6 @@
 // The test that a state is sound, for any contents: a Core and its lent slots, part by part.
+#![tactic(auto)]
+
 ghost use Rattle.std.specs.Prelude.{◌≡◌, length};
 ghost use Rattle.rows.specs.Rows.{all_slots};
 ghost use Rattle.state.specs.Sound.{sound_state};

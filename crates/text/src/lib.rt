@@ -1,4 +1,6 @@
 // Text in a lent buffer. Each function puts bytes at an offset, keeps every other byte, and answers the offset after them.
+#![tactic(auto)]
+
 ghost use Rattle.std.specs.Prelude.{[], ◌∷◌, ◌+◌, ◌<◌, ◌≤◌, length};
 ghost use Rattle.text.specs.Decimal.{decimal};
 ghost use Rattle.text.specs.Placed.{Put};

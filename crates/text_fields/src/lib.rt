@@ -1,4 +1,6 @@
 // Numbers as the fields of a line, put into a lent buffer as `text` puts bytes.
+#![tactic(auto)]
+
 ghost use Rattle.std.specs.Prelude.{◌+◌, ◌≤◌, length};
 ghost use Rattle.text.specs.Fields.{field, labelled, row};
 ghost use Rattle.text.specs.Placed.{Put};

@@ -1,5 +1,7 @@
 // Writes the text of a trace file, and says how it ended: done, refused, or failed where the file can't be read or the text can't be
 // written. A refusal goes to the standard error.
+#![tactic(auto)]
+
 use libc::STDOUT_FILENO;
 
 // The longest text of a file: the start line's 27 bytes, 76 for each of 32 threads and 87 for each of 1,500 events.

@@ -1,16 +1,18 @@
 // Decimal numbers in a line: without leading zeros, one space between two of them and a newline after the last.
+#![tactic(auto)]
+
 ghost use Rattle.std.specs.Prelude.{◌≡◌, ◌≤◌, ◌<◌, length, drop};
 ghost use Rattle.text_numbers.specs.Numbers.{digit, decimal_at, end_byte, no_numbers, numbers_found};
 
 // A number that was found, with the place after the byte that ends it; or none.
-#[derive(Drop)]
+#[derive(Clone, Copy)]
 pub enum Number {
     Value(u64, usize),
     Nothing,
 }
 
 // The numbers of a line, with zeros after the last. Where `right` is false the line is not made of such numbers, and all are 0.
-#[derive(Drop)]
+#[derive(Clone, Copy)]
 pub struct Numbers {
     pub right: bool,
     pub values: [u64; 8],

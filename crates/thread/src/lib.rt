@@ -1,4 +1,6 @@
 // One thread of a state: its fields, and a thread with a full quantum or with new parameters.
+#![tactic(auto)]
+
 ghost use Rattle.std.specs.Prelude.{◌≡◌};
 ghost use Rattle.records.specs.Ranges.{by_policy};
 ghost use Rattle.thread.specs.Thread.{thread_of, full_quantum, renewed};
@@ -9,7 +11,7 @@ use sporadic::Server;
 // Its parameters, whether it is blocked (1) or runnable (0), its total run time, the quantum left of an RR thread, and the
 // capacity, U and activation time of a sporadic one.
 #[repr(C)]
-#[derive(Drop)]
+#[derive(Clone, Copy)]
 pub struct Thread {
     pub parameters: Parameters,
     pub blocked: u8,

@@ -1,4 +1,6 @@
 // Whether a place from N on holds no thread, and no slot from there on a number, for any contents. No state.
+#![tactic(auto)]
+
 ghost use Rattle.std.specs.Prelude.{◌≡◌, [], ◌∷◌, ◌++◌, eqb, ◌*◌, ◌≤◌, length, drop};
 ghost use Rattle.base.specs.Tests.{all, zeros};
 ghost use Rattle.records.specs.Ranges.{most_threads};

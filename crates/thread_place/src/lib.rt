@@ -1,4 +1,6 @@
 // The list in which a thread stands.
+#![tactic(auto)]
+
 ghost use Rattle.std.specs.Prelude.{◌≡◌};
 ghost use Rattle.thread.specs.Thread.{place_of};
 

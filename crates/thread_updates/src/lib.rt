@@ -1,4 +1,6 @@
 // A thread with other fields: an updater for each.
+#![tactic(auto)]
+
 ghost use Rattle.std.specs.Prelude.{◌≡◌};
 ghost use Rattle.thread.specs.Thread.{with_blocked, with_left, with_server, with_run};
 

@@ -1,4 +1,6 @@
 // What so many ticks change.
+#![tactic(auto)]
+
 ghost use Rattle.std.specs.Prelude.{◌≡◌, false, cond, ◌+◌, ◌<◌, ◌≤◌, ◌^◌, eqb};
 ghost use Rattle.ticks.specs.Running.{ran};
 

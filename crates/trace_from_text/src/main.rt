@@ -1,5 +1,7 @@
 // Writes the trace file of a text, and says how it ended: done, refused, or failed where the text can't be read, is too long or the file
 // can't be written. A refusal goes to the standard error, and with it the line at fault.
+#![tactic(auto)]
+
 ghost use Rattle.std.specs.Prelude.{◌≤◌, length};
 
 use libc::{STDERR_FILENO, STDOUT_FILENO};

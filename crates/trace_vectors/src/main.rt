@@ -1,5 +1,7 @@
 // Runs the cases of the standard input: trace files that are made and damaged here. The head of the file `stdin` says what its lines
 // mean. Stored files are run by `replay_vectors`.
+#![tactic(auto)]
+
 use libc::STDOUT_FILENO;
 use records::{Event, Header, Parameters};
 

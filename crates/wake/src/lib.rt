@@ -1,4 +1,6 @@
 // What a wake does to a sporadic server, as an Effect. No entries, no thread, no list.
+#![tactic(auto)]
+
 ghost use Rattle.std.specs.Prelude.{◌≡◌};
 ghost use Rattle.sporadic.specs.Rules.{unchanged, sent, wake_effect};
 

@@ -1,0 +1,17 @@
+-- `account::wake` meets its contract.
+use mathlib.Core.Path.{ap, ◌∙◌}
+use Rattle.sporadic.specs.declared.Effect.{Effect}
+use Rattle.account.specs.Rules.{outcome}
+use Rattle.account.proofs.RoomLaws.{wake-room}
+use borrow.Author.Rules.{rules}
+use Rattle.account.proofs.wake.Goals as goal
+
+pub outcome_of-requires : goal.outcome_of-requires
+outcome_of-requires c =
+    let o = c in
+    rw c.wake_effect.ensures (wake-room o.args.now o.args.p o.args.a.server o.args.blocked o.args.a.pending.count)
+
+pub returns : goal.returns
+returns c =
+    let a = c.args.a in
+    c.outcome_of.ensures ∙ ap (λ (e : Effect). outcome e a) c.wake_effect.ensures

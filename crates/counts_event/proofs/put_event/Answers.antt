@@ -1,0 +1,50 @@
+-- `counts_event::put_event` meets its contract: the lines so far are the event's and those of the first t threads.
+use Prim.Native.Nat.{◌+◌, ◌-◌, ◌*◌, ◌≤◌}
+use mathlib.Core.Path.{◌≡◌, refl, ◌∙◌}
+use native.Mathlib.Omega.{arith}
+use lib.ListN.{length}
+use Rattle.text.specs.Placed.{Put}
+use Rattle.trace.specs.Lists.{joined}
+use Rattle.counts_text.specs.Lines.{count_line}
+use Rattle.counts_text.specs.Room.{thread_line_most}
+use Rattle.counts_text.proofs.LineLaws.{event-put, lines_none, lines_next}
+use Rattle.counts_event.proofs.put_event.Goals as goal
+
+pub put_event_line-here-requires : goal.put_event_line-here-requires
+put_event_line-here-requires c = let s = c in (omega (arith, s.requires.0), omega (arith, s.requires.2))
+
+pub loop-t-init : goal.loop-t-init
+loop-t-init c = (omega arith, refl, omega arith, lines_none _ _ _)
+
+pub put_count-here-requires : goal.put_count-here-requires
+put_count-here-requires c =
+    let w = c.loop-t in
+    let e = c in
+    let s = e in
+    (omega (arith, s.requires.1), omega (arith, s.requires.1, s.requires.2, w.invariant.1, w.invariant.2, e.put_event_line-here.auto.0, e.put_event_line-here.ensures.1))
+
+pub loop-t-preserved : goal.loop-t-preserved
+loop-t-preserved c =
+    let p = c.put_count-here in
+    let w = c.loop-t in
+    let e = c in
+    let s = e in (
+      omega arith,
+      p.auto.0 ∙ w.invariant.1,
+      omega (arith, w.invariant.2, p.ensures.1),
+      lines_next (count_line s.args.told.now) w.t (omega (arith, s.requires.1, s.requires.2, w.invariant.2, e.put_event_line-here.auto.0, e.put_event_line-here.ensures.1)) w.invariant.3 p.ensures.0,
+    )
+
+pub shape_of-out : goal.shape_of-out
+shape_of-out c = c.loop-t.invariant.1 ∙ c.put_event_line-here.auto.0
+
+pub returns : goal.returns
+returns c =
+    let w = c.loop-t in
+    let e = c in
+    let s = e in
+    let a = s.args in
+    let k : w.t ≡ a.n = omega arith in (
+      event-put a.i a.status a.n a.told.now (omega (arith, s.requires.2, e.put_event_line-here.ensures.1)) e.put_event_line-here.ensures.0 (rw k at w.invariant.3),
+      omega (arith, w.invariant.2, e.put_event_line-here.ensures.1, s.requires.1),
+    )

@@ -1,0 +1,17 @@
+-- `decimals::decimals_of` meets its contract: the limbs are an equal fraction.
+use mathlib.Core.Path.{◌∙◌}
+use native.Mathlib.Omega.{arith}
+use borrow.Author.Rules.{rules}
+use lib.Ieee.Positive.{den, den_pos, num}
+use Rattle.decimals.specs.Private.{unit, joined}
+use Rattle.decimals.proofs.RoundLaws.{decimals-same}
+use Rattle.decimals.proofs.decimals_of.Goals as goal
+
+pub spelt-requires : goal.spelt-requires
+spelt-requires c = (c.split-l.ensures.high, c.split-l.ensures.low)
+
+pub returns : goal.returns
+returns c =
+    let s = c.split-l in
+    let x = c.args.x in
+    (c.spelt.ensures.0 ∙ decimals-same unit (den x) (omega arith) (den_pos x) (joined s.result) (num x) s.ensures.value, c.spelt.ensures.1)

@@ -1,0 +1,12 @@
+-- `insertion::insert` meets its contract. The invariant: the numbers from i on are moved one slot down.
+use Prim.Native.Nat.{◌≤◌}
+use mathlib.Core.Path.{◌≡◌}
+use native.Mathlib.Omega.{arith}
+use Rattle.entries.proofs.InsertLaws.{moved_down, down-start, down_turn, down-store}
+use Rattle.insertion.proofs.insert.Given as goal
+
+abbrev pub invariant-loop-i : goal.invariant-loop-i
+invariant-loop-i l = (l.k ≤ l.i) × (l.i ≤ l.n) × (l.r ≡ moved_down l.xs l.n l.i)
+
+abbrev pub decreases-loop-i : goal.decreases-loop-i
+decreases-loop-i l = l.i

@@ -1,0 +1,64 @@
+-- `parts_sound::sound_parts` meets its contract: a part that fails makes the list of tests false, and where the others hold the
+use Prim.Native.Nat.{ℕ, ◌+◌, ◌-◌, ◌≤◌, ◌<◌}
+use mathlib.Core.Bool.{Bool, true, false, not}
+use mathlib.Core.Path.{◌≡◌, refl, sym, ap, fun_ext, ◌∙◌}
+use mathlib.Core.List.{List}
+use native.Mathlib.Omega.{arith}
+use lib.ListN.{length, drop, get_or, set, length-set, replicate, get_or-replicate}
+use lib.Seq.{get_or-set_other}
+use lib.Dec.{ltb, eqb}
+use mir.Syntax.{w64}
+use mir.Val.{Fits}
+use borrow.Author.Rules.{rules}
+use borrow.Author.Tests.{lt-leb, le-leb, eq-eqb, ne_eqb}
+use Rattle.records.specs.Ranges.{most_threads, last_time}
+use Rattle.base.specs.Tests.{all, below}
+use Rattle.base.proofs.TestLaws.{tests, all-false, false-true, never_true, below_at, at-below}
+use Rattle.ready.specs.Sound.{sound_lists}
+use Rattle.thread.specs.declared.Thread.{Thread}
+use Rattle.state.specs.declared.State.{State}
+use Rattle.state.specs.State.{thread_at, pending_at, place}
+use Rattle.state.specs.Sound.{thread_test, present_test, absent_test, totals, sound_tests, sound_state}
+use Rattle.state.specs.Updates.{state_of}
+use Rattle.state.proofs.TestLaws.{decided-true, decided-false, ◌and◌, by_last, below_next, below_false, eqb_same}
+use Rattle.state.proofs.ThreadLaws.{Filled, fill-next, fill_end, totals-next}
+use Rattle.state.proofs.AbsentLaws.{no_thread_tests, at-absent, at-present, none_in, none-thread, none-slots, none-run, absent-place, absent-total}
+use Rattle.parts_sound.proofs.sound_parts.Given as goal
+
+-- the places from N on before k hold no thread, their slots apart
+pub record None (s : State) (k : ℕ) : Type 0 where
+  many : length s.threads ≡ 32
+  low : s.header.n ≤ k
+  high : k ≤ 32
+  each : (j : ℕ) → s.header.n ≤ j → j < k → all (no_thread_tests (thread_at s j) (get_or s.counts j 0)) ≡ true
+
+-- after i of the N threads: their tests hold, their places are filled in and no other, and what is left is what their times leave
+pub record Passed (s : State) (left : ℕ) (places : List ℕ) (i : ℕ) : Type 0 where
+  few : s.header.n ≤ 32
+  none : (j : ℕ) → s.header.n ≤ j → j < 32 → absent_test (thread_at s j) (pending_at s j) ≡ true
+  range : i ≤ s.header.n
+  many : length s.threads ≡ 32
+  held : below i (thread_test s) ≡ true
+  array : length places ≡ 32
+  filled : Filled s.threads s.counts places i
+  unfilled : (j : ℕ) → i ≤ j → j < 32 → get_or places j 0 ≡ 0
+  rest : left + (s.header.start + totals s.threads) ≡ s.now + totals (drop i s.threads)
+
+-- N threads at most, and slots for all of them
+pub record Bounds (s : State) : Type 0 where
+  few : s.header.n ≤ 32
+  dues : length s.dues ≡ 256
+  amounts : length s.amounts ≡ 256
+
+abbrev pub invariant-loop-k : goal.invariant-loop-k
+invariant-loop-k l = None (state_of l.header l.time l.idle l.word l.threads l.counts l.dues l.amounts l.lists) l.k
+
+abbrev pub decreases-loop-k : goal.decreases-loop-k
+decreases-loop-k l = 32 - l.k
+
+abbrev pub invariant-loop-i : goal.invariant-loop-i
+invariant-loop-i l =
+    Passed (state_of l.header l.time l.idle l.word l.threads l.counts l.dues l.amounts l.lists) l.left l.places l.i
+
+abbrev pub decreases-loop-i : goal.decreases-loop-i
+decreases-loop-i l = l.header.n - l.i

@@ -1,0 +1,18 @@
+-- `refusal_line::put_refusal` meets its contract: the longest number has room.
+use borrow.Author.Rules.{rules}
+use native.Mathlib.Omega.{arith}
+use Rattle.text.proofs.FieldLaws.{labelled-length}
+use Rattle.listing.specs.Lines.{refused_word, refused_line}
+use Rattle.refusal_line.proofs.put_refusal.Goals as goal
+
+pub put_labelled-requires : goal.put_labelled-requires
+put_labelled-requires c =
+    let s = c in
+    omega (arith, labelled-length refused_word {n = s.args.status} (omega arith), s.requires)
+
+pub returns : goal.returns
+unfolding refused_line
+returns c =
+    let p = c.put_labelled in
+    let s = c in
+    (p.ensures, omega (arith, p.ensures.next, labelled-length refused_word {n = s.args.status} (omega arith)))

@@ -1,0 +1,33 @@
+-- `reports::tell_back` meets its contract.
+use Prim.Native.Nat.{ℕ, ◌+◌, ◌*◌}
+use mathlib.Core.Path.{ap, ◌∙◌}
+use mathlib.Core.List.{List}
+use lib.ListN.{length, get_or}
+use native.Mathlib.Omega.{arith}
+use borrow.Author.Rules.{rules}
+use Rattle.reports.specs.Tallies.{more}
+use Rattle.reports.proofs.TellLaws.{none_told, back-told, more-length, more-other}
+use Rattle.reports.proofs.tell_back.Goals as goal
+
+pub returns-then-back-eq0 : goal.returns-then-back-eq0
+returns-then-back-eq0 c = let a = c.args in none_told a.i a.back a.told.now c.if-back-eq0.true
+
+pub add-requires : goal.add-requires
+add-requires c = let b = c in (omega arith, b.requires.1.0, omega (arith, b.requires.1.1 (b.args.i * 4 + 2)))
+
+pub add-requires-2 : goal.add-requires-2
+add-requires-2 c =
+    let b = c in
+    let i = b.args.i in
+    let xs = b.args.told.now in (
+      omega arith,
+      ap (λ (l : List ℕ). length l) c.add.ensures ∙ more-length (i * 4 + 2) 1 xs ∙ b.requires.1.0,
+      omega (arith, ap (λ (l : List ℕ). get_or l (i * 4 + 3) 0) c.add.ensures, more-other (i * 4 + 2) (i * 4 + 3) 1 xs (λ z. omega arith), b.requires.1.1 (i * 4 + 3)),
+    )
+
+pub returns : goal.returns
+returns c =
+    let b = c in
+    c.add-2.ensures
+    ∙ ap (more (b.args.i * 4 + 3) b.args.back) c.add.ensures
+    ∙ back-told b.args.i b.args.back b.args.told.now c.if-back-eq0.false

@@ -1,0 +1,25 @@
+-- `reports::tell_limit` meets its contract.
+use Prim.Native.Nat.{◌+◌, ◌*◌}
+use mathlib.Core.Path.{ap, ◌∙◌, subst⁻¹}
+use native.Mathlib.Omega.{arith}
+use borrow.Author.Rules.{rules}
+use Rattle.reports.specs.Tallies.{back_tally, more_of, Tellable}
+use Rattle.reports.proofs.TellLaws.{limit-told, more_room}
+use Rattle.reports.proofs.tell_limit.Goals as goal
+
+pub add-requires : goal.add-requires
+add-requires c = let b = c in (omega arith, b.requires.1.0, omega (arith, b.requires.1.1 (b.args.i * 4)))
+
+pub tell_back-requires : goal.tell_back-requires
+tell_back-requires c =
+    let b = c in
+    let i = b.args.i in (
+      b.requires.0,
+      subst⁻¹ (Tellable (b.args.back + 1)) c.add.ensures
+          (more_room (b.args.back + 1) 1 (i * 4) b.args.told.now (omega (arith, b.requires.1.0)) (b.requires.1.0, λ k. omega (arith, b.requires.1.1 k))),
+    )
+
+pub returns : goal.returns
+returns c =
+    let a = c.args in
+    c.tell_back.ensures ∙ ap (more_of a.i (back_tally a.back)) c.add.ensures ∙ limit-told a.i a.back a.told.now

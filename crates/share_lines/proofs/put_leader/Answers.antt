@@ -1,0 +1,44 @@
+-- `share_lines::put_leader` meets its contract: its word, the number, and then the share.
+use mathlib.Core.Path.{◌∙◌}
+use native.Mathlib.Omega.{arith}
+use Rattle.text.specs.Fields.{space}
+use Rattle.text.proofs.PlacedLaws.{after}
+use Rattle.share_lines.specs.Lines.{leader_line}
+use Rattle.text.proofs.FieldLaws.{byte-length}
+use Rattle.share_lines.proofs.put_leader.Reads as reads
+use Rattle.share_lines.proofs.put_leader.Lts as lts
+use Rattle.share_lines.proofs.put_digits.Reads as put-digits-reads
+use Rattle.text_fields.proofs.put_field.Reads as put-field-reads
+use Rattle.text.proofs.put_word.Reads as put-word-reads
+use Rattle.share_lines.proofs.put_leader.Goals as goal
+
+pub put_word-at-requires : goal.put_word-at-requires
+put_word-at-requires c = let s = c in omega (arith, s.requires.1, s.requires.2)
+
+pub put_field-at-requires : goal.put_field-at-requires
+put_field-at-requires c =
+    let w = c.put_word-at in
+    let s = c in
+    omega (arith, s.requires.1, s.requires.2, w.ensures.next, w.auto.0, byte-length space s.ranges.thread)
+
+pub put_digits-requires : goal.put_digits-requires
+put_digits-requires c =
+    let f = c.put_field-at in
+    let w = c.put_word-at in
+    let s = c in
+    (s.requires.0, omega (arith, s.requires.1, s.requires.2, f.ensures.next, f.auto.0, w.ensures.next, w.auto.0, byte-length space s.ranges.thread))
+
+pub shape_of-out : goal.shape_of-out
+shape_of-out c = c.put_digits.auto.0 ∙ c.put_field-at.auto.0 ∙ c.put_word-at.auto.0
+
+pub returns : goal.returns
+unfolding leader_line
+returns c =
+    let e = c.put_digits in
+    let f = c.put_field-at in
+    let w = c.put_word-at in
+    let s = c in
+    let l = byte-length space s.ranges.thread in (
+      after (omega (arith, s.requires.1, s.requires.2, f.ensures.next, w.ensures.next)) (after (omega (arith, s.requires.1, s.requires.2, w.ensures.next)) w.ensures f.ensures) e.ensures.0,
+      omega (arith, e.ensures.1, s.requires.1, f.ensures.next, w.ensures.next),
+    )
