@@ -70,14 +70,14 @@ given a = account_of a.args.s a.args.count a.args.dues.now a.args.amounts.now
 -- ---- the first part: the numbers hold, and so the entries in use lie in the slots
 
 
-record Numbers (c : lts.After-wide-n) : Type 0 where
+record Numbers (c : lts.After-wide) : Type 0 where
   first : all (number_tests c.args.start c.args.time
       (runs_upper c.args.blocked c.args.p
       (given c)) c.args.p
       c.args.s c.args.count) ≡ true
   few : c.wide-n.result ≤ 8
 
-numbered : (c : lts.After-wide-n) → Numbers c
+numbered : (c : lts.After-wide) → Numbers c
 numbered c =
     let i = c in
     let u = i in

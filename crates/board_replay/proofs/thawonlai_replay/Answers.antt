@@ -7,7 +7,7 @@ use Rattle.board_replay.proofs.thawonlai_replay.Goals as goal
 
 -- the file is begun
 abbrev Begins : Type 0
-Begins = lts.After-begin-begun
+Begins = lts.After-begin
 
 abbrev started : Begins → lts.Start
 started c = c

@@ -35,7 +35,7 @@ loop-i-preserved c =
     let w = t.loop-i in
     let s = t in (
       omega arith,
-      p.auto.0 ∙ w.invariant.1,
+      p.auto.out ∙ w.invariant.1,
       omega (arith, w.invariant.2, p.ensures.1),
       lines_next s.args.table s.args.ticks w.i (omega (arith, s.requires, w.invariant.2, t.loop-i-test.true)) w.invariant.3 p.ensures.0,
     )

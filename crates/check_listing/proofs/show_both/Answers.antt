@@ -10,11 +10,11 @@ use Rattle.check_listing.proofs.show_both.Goals as goal
 
 -- src/main.rt:38:30
 pub slice_bounds-ours-end : goal.slice_bounds-ours-end
-slice_bounds-ours-end c = (listed-part _ _ c.listing-listed.new.1.0 _ c.listing-listed.ensures.0 c.listing-listed.auto.1.0).0
+slice_bounds-ours-end c = (listed-part _ _ c.listing-listed.new.1.0 _ c.listing-listed.ensures.0 c.listing-listed.auto.out.0).0
 
 -- src/main.rt:38:30
 slice-aggregate-show-2 : tie.Need-slice-aggregate-show-2
-slice-aggregate-show-2 c = (listed-part _ _ c.listing-listed.new.1.0 _ c.listing-listed.ensures.0 c.listing-listed.auto.1.0).1
+slice-aggregate-show-2 c = (listed-part _ _ c.listing-listed.new.1.0 _ c.listing-listed.ensures.0 c.listing-listed.auto.out.0).1
 
 -- src/main.rt:39:17
 slice-aggregate-show-3 : tie.Need-slice-aggregate-show-3

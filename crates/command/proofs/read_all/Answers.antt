@@ -52,7 +52,7 @@ returns-then-got-eq0 c =
     let w = c.loop-turns in
     let r = c.read-got in
     part w.length (put_mid w.length (list.length w.buffer - w.length) w.buffer r.new.1.0)
-    (omega (arith, w.invariant.0, w.invariant.1, same_len_mid w.length (list.length w.buffer - w.length) w.buffer r.new.1.0 r.auto.1.0))
+    (omega (arith, w.invariant.0, w.invariant.1, same_len_mid w.length (list.length w.buffer - w.length) w.buffer r.new.1.0 r.auto.buf.0))
 
 -- src/main.rt:35:34
 pub slice_bounds-count-count : goal.slice_bounds-count-count
@@ -84,7 +84,7 @@ loop-turns-preserved c =
     let w = c.loop-turns in
     let r = c.read-got in
     let b : List ℕ = (put_mid w.length (list.length w.buffer - w.length) w.buffer r.new.1.0) in
-    let k : list.length b ≡ list.length w.buffer = same_len_mid w.length (list.length w.buffer - w.length) w.buffer r.new.1.0 r.auto.1.0 in
+    let k : list.length b ≡ list.length w.buffer = same_len_mid w.length (list.length w.buffer - w.length) w.buffer r.new.1.0 r.auto.buf.0 in
     (k ∙ w.invariant.0, omega (arith, k, w.invariant.0, w.invariant.1, c.count-length.ensures.0.0, mid_len w.length (list.length b) b (omega arith)))
 
 -- src/main.rt:15:1

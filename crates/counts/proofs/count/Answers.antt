@@ -12,10 +12,10 @@ use Rattle.counts.proofs.count.Lts as lts
 use Rattle.counts.proofs.count.Goals as goal
 
 -- the file is begun
-abbrev started : lts.After-begin-begun → lts.Start
+abbrev started : lts.After-begin → lts.Start
 started c = c
 
-status-is : (c : lts.After-begin-begun) → c.begin-begun.result.status ≡ (begun_of (started c).args.file.now).status
+status-is : (c : lts.After-begin) → c.begin-begun.result.status ≡ (begun_of (started c).args.file.now).status
 status-is c = ap (λ (b : Beginning). b.status) c.begin-begun.ensures.0
 
 pub returns-then-status-ne0 : goal.returns-then-status-ne0
@@ -31,7 +31,7 @@ write_events-ended-requires c =
 pub write_sums-requires : goal.write_sums-requires
 write_sums-requires c =
     let w = c.write_events-ended in
-    (omega (tests, (state-out (whole w.result.core w.new.1.1.0 w.new.1.1.1.0) w.ensures.0).sizes), omega (arith, w.auto.1.1.1.1.1.1.0))
+    (omega (tests, (state-out (whole w.result.core w.new.1.1.0 w.new.1.1.1.0) w.ensures.0).sizes), omega (arith, w.auto.out.1.1.1.1.1.0))
 
 pub returns : goal.returns
 returns c n =

@@ -21,15 +21,15 @@ use Rattle.counts.proofs.write_events.Goals as goal
 
 -- a step is taken
 abbrev Taken : Type 0
-Taken = lts.After-count_at-step
+Taken = lts.After-count_at
 
-abbrev turn : Taken → lts.At-loop-i
+abbrev turn : Taken → lts.At-loop
 turn c = c
 
-abbrev started : lts.At-loop-i → lts.Start
+abbrev started : lts.At-loop → lts.Start
 started c = c
 
-abbrev state_here : lts.At-loop-i → State
+abbrev state_here : lts.At-loop → State
 state_here c = whole c.loop-i.s c.loop-i.dues c.loop-i.amounts
 
 abbrev step : Taken → CountStep
@@ -55,7 +55,7 @@ count_at-step-requires c =
 pub shape_of-out-then-not-step : goal.shape_of-out-then-not-step
 shape_of-out-then-not-step c =
     let t = c in
-    t.count_at-step.auto.1.1.1.1.1.1.1.0 ∙ (turn t).loop.invariant.3
+    t.count_at-step.auto.out.1.1.1.1.1.1.0 ∙ (turn t).loop.invariant.3
 
 pub returns-then-not-step : goal.returns-then-not-step
 returns-then-not-step c =
@@ -71,12 +71,12 @@ pub write-requires : goal.write-requires
 write-requires c =
     let t = c in
     let h = turn t in
-    omega (arith, t.count_at-step.ensures.1.1.1.2, t.count_at-step.auto.1.1.1.1.1.1.1.0, h.loop.inv.3, (started h).pre.1)
+    omega (arith, t.count_at-step.ensures.1.1.1.2, t.count_at-step.auto.out.1.1.1.1.1.1.0, h.loop.inv.3, (started h).pre.1)
 
 pub shape_of-out-then-not-write : goal.shape_of-out-then-not-write
 shape_of-out-then-not-write c =
     let t = c in
-    t.count_at-step.auto.1.1.1.1.1.1.1.0 ∙ (turn t).loop.invariant.3
+    t.count_at-step.auto.out.1.1.1.1.1.1.0 ∙ (turn t).loop.invariant.3
 
 pub returns-then-not-write : goal.returns-then-not-write
 returns-then-not-write c = (c.count_at-step.ensures.1.1.1.0, λ m. false-true m)
@@ -100,7 +100,7 @@ loop-i-preserved c =
       omega (arith, l),
       p.ensures.1.1.1.0,
       p.ensures.1.1.1.1,
-      p.auto.1.1.1.1.1.1.1.0 ∙ w.inv.3,
+      p.auto.out.1.1.1.1.1.1.0 ∙ w.inv.3,
       ap (λ (xs : List ℕ). added xs (sums_from (step t).state a.file.now (step t).offset (most_events - (w.i + 1)))) p.ensures.1.1.0
           ∙ sums-carry w.sums w.inv.2.all g
           ∙ rw k at w.inv.4,

@@ -21,7 +21,7 @@ put_count-here-requires c =
     let w = c.loop-t in
     let e = c in
     let s = e in
-    (omega (arith, s.requires.1), omega (arith, s.requires.1, s.requires.2, w.invariant.1, w.invariant.2, e.put_event_line-here.auto.0, e.put_event_line-here.ensures.1))
+    (omega (arith, s.requires.1), omega (arith, s.requires.1, s.requires.2, w.invariant.1, w.invariant.2, e.put_event_line-here.auto.out, e.put_event_line-here.ensures.1))
 
 pub loop-t-preserved : goal.loop-t-preserved
 loop-t-preserved c =
@@ -30,13 +30,13 @@ loop-t-preserved c =
     let e = c in
     let s = e in (
       omega arith,
-      p.auto.0 ∙ w.invariant.1,
+      p.auto.out ∙ w.invariant.1,
       omega (arith, w.invariant.2, p.ensures.1),
-      lines_next (count_line s.args.told.now) w.t (omega (arith, s.requires.1, s.requires.2, w.invariant.2, e.put_event_line-here.auto.0, e.put_event_line-here.ensures.1)) w.invariant.3 p.ensures.0,
+      lines_next (count_line s.args.told.now) w.t (omega (arith, s.requires.1, s.requires.2, w.invariant.2, e.put_event_line-here.auto.out, e.put_event_line-here.ensures.1)) w.invariant.3 p.ensures.0,
     )
 
 pub shape_of-out : goal.shape_of-out
-shape_of-out c = c.loop-t.invariant.1 ∙ c.put_event_line-here.auto.0
+shape_of-out c = c.loop-t.invariant.1 ∙ c.put_event_line-here.auto.out
 
 pub returns : goal.returns
 returns c =

@@ -13,7 +13,7 @@ use Rattle.counts_steps.proofs.count_at.Goals as goal
 
 -- the step is taken
 abbrev Taken : Type 0
-Taken = lts.After-step_at-step
+Taken = lts.After-step_at
 
 abbrev started : Taken → lts.Start
 started c = c

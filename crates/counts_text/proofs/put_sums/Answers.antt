@@ -26,7 +26,7 @@ loop-t-preserved c =
     let w = c.loop-t in
     let s = c in (
       omega arith,
-      p.auto.0 ∙ w.invariant.1,
+      p.auto.out ∙ w.invariant.1,
       omega (arith, w.invariant.2, p.ensures.1),
       lines_next (thread_line sum_word s.args.sums.now) w.t (omega (arith, s.requires.0, s.requires.1, w.invariant.2)) w.invariant.3 p.ensures.0,
     )

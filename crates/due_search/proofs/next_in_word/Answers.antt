@@ -28,7 +28,7 @@ pub without_lowest-rest-requires : goal.without_lowest-rest-requires
 without_lowest-rest-requires c = omega (arith, c.if-word-eq0.false)
 
 -- the first thread
-first_small : (c : lts.After-lowest-first) → c.lowest-first.result < 32
+first_small : (c : lts.After-lowest) → c.lowest-first.result < 32
 first_small c =
     let b = c in
     omega (arith, c.lowest-first.ensures, set-within 32 b.args.word (omega (arith, b.ranges.word)) (omega (arith, c.if-word-eq0.false)))
@@ -60,7 +60,7 @@ pub without_lowest-rest-requires-in-loop-best : goal.without_lowest-rest-require
 without_lowest-rest-requires-in-loop-best c = omega (arith, c.if-rest-eq0.false)
 
 -- the next thread
-next_small : (c : lts.After-lowest-k) → c.lowest-k.result < 32
+next_small : (c : lts.After-lowest2) → c.lowest-k.result < 32
 next_small c =
     let l = c in
     omega (arith, c.lowest-k.ensures, set-within 32 l.loop-best.rest l.loop-best.invariant.0 (omega (arith, c.if-rest-eq0.false)))
@@ -72,7 +72,7 @@ pub lesser_of-best-requires : goal.lesser_of-best-requires
 lesser_of-best-requires c = tt
 
 -- the rest is less without it
-falls : (c : lts.After-without_lowest-rest-in-loop-best) → c.without_lowest-rest-in-loop-best.result < c.loop-best.rest
+falls : (c : lts.After-without_lowest2) → c.without_lowest-rest-in-loop-best.result < c.loop-best.rest
 falls c =
     let r = c.loop-best.rest in
     omega (arith, c.without_lowest-rest-in-loop-best.ensures, and_le_r r (r - 1), c.if-rest-eq0.false)

@@ -64,43 +64,43 @@ Placed = lts.After-index
 
 -- a turn begins
 abbrev Here : Type 0
-Here = lts.At-loop-stand
+Here = lts.At-loop
 
 -- the head of the highest list is read
 abbrev Topped : Type 0
-Topped = lts.After-wide-i
+Topped = lts.After-wide
 
 -- the next moment is known
 abbrev Read : Type 0
-Read = lts.After-next_moment-next
+Read = lts.After-next_moment
 
 -- the event is still to come
 abbrev Undone : Type 0
-Undone = lts.Else-stand
+Undone = lts.Else2
 
 -- a moment is due by its time
 abbrev Due : Type 0
-Due = lts.Then-due_by
+Due = lts.Then4
 
 -- time has passed
 abbrev Passed : Type 0
-Passed = lts.After-advance-then
+Passed = lts.After-advance
 
 -- and 15 is judged, where it is to be
 abbrev Judged : Type 0
-Judged = lts.After-judged-stand
+Judged = lts.After-judged
 
 -- no moment is due by its time
 abbrev Rest : Type 0
-Rest = lts.Else-due_by
+Rest = lts.Else4
 
 -- and 15 is to be judged
 abbrev Judging : Type 0
-Judging = lts.Then-stand-3
+Judging = lts.Then6
 
 -- or the event is accepted
 abbrev Still : Type 0
-Still = lts.Else-stand-3
+Still = lts.Else6
 
 -- the ticks up to its time are charged
 abbrev Charged : Type 0
@@ -108,11 +108,11 @@ Charged = lts.After-charged_idle
 
 -- the thread that it concerns is known
 abbrev Named : Type 0
-Named = lts.After-wide-j
+Named = lts.After-wide3
 
 -- its entries and what the event tells are in place
 abbrev Entered : Type 0
-Entered = lts.After-happen-c
+Entered = lts.After-happen
 
 abbrev cleared : Tested → Cleared
 cleared c = c
@@ -302,7 +302,7 @@ bounds-s-index-then-stand c = c.index-then-stand.ensures.0
 pub begun-stand-requires-then-stand : goal.begun-stand-requires-then-stand
 begun-stand-requires-then-stand c = tt
 
-starts : (c : lts.After-begun-stand-then-stand)
+starts : (c : lts.After-begun2)
     → At (state_here (begun (topped (read (followed c))))) (followed c).following.result.event c.begun-stand-then-stand.result
     (state_here (begun (topped (read (followed c))))) (followed c).following.last.1.1.1.1.0
 starts c =
@@ -433,7 +433,7 @@ not-due c = sym c.due_by.ensures ∙ c.if-due_by.false
 pub wide-w-requires : goal.wide-w-requires
 wide-w-requires c = tt
 
-there : (c : lts.After-wide-w) → c.wide-w.result < 32
+there : (c : lts.After-wide2) → c.wide-w.result < 32
 there c = let u = still c in omega (arith, c.wide-w.ensures, ((turned u).loop.inv.stage.judges u.if2.left c.if-stand-3.true).2.there)
 
 pub offset_bounds-s-w : goal.offset_bounds-s-w

@@ -14,7 +14,7 @@ pub returns-then-amount-eq0 : goal.returns-then-amount-eq0
 returns-then-amount-eq0 c = sym (cond-false _ _ _ c.if-first.false ∙ cond-true _ _ _ (eq-eqb _ 0 c.if-amount-eq0.true))
 
 -- there is a free slot
-room : (c : lts.After-wide-n) → c.wide-n.result < 8
+room : (c : lts.After-wide) → c.wide-n.result < 8
 room c = omega (arith, c.wide-n.ensures, c.requires.1 c.if-first.false (omega (arith, c.if-amount-eq0.false)))
 
 pub slot_for-k-requires : goal.slot_for-k-requires

@@ -10,11 +10,11 @@ use Rattle.listing_verdict.proofs.compared.Goals as goal
 
 -- src/lib.rt:23:34
 pub slice_bounds-ours-end : goal.slice_bounds-ours-end
-slice_bounds-ours-end c = (listed-part _ _ c.listing-listed.new.1.0 _ c.listing-listed.ensures.0 c.listing-listed.auto.1.0).0
+slice_bounds-ours-end c = (listed-part _ _ c.listing-listed.new.1.0 _ c.listing-listed.ensures.0 c.listing-listed.auto.out.0).0
 
 -- src/lib.rt:23:34
 pub slice_bounds-first_difference-end : goal.slice_bounds-first_difference-end
-slice_bounds-first_difference-end c = (listed-part _ _ c.listing-listed.new.1.0 _ c.listing-listed.ensures.0 c.listing-listed.auto.1.0).1
+slice_bounds-first_difference-end c = (listed-part _ _ c.listing-listed.new.1.0 _ c.listing-listed.ensures.0 c.listing-listed.auto.out.0).1
 
 -- src/lib.rt:17:1
 pub returns : goal.returns

@@ -58,7 +58,7 @@ loop-j-init c =
 
 -- a turn begins
 abbrev Here : Type 0
-Here = lts.At-loop-j
+Here = lts.At-loop
 
 abbrev entry : Here → Given
 entry c = c
@@ -84,7 +84,7 @@ due_by-requires c = tt
 
 -- something is due now
 abbrev Due-now : Type 0
-Due-now = lts.Then-due_by
+Due-now = lts.Then1
 
 abbrev turned : Due-now → Here
 turned c = c
@@ -118,7 +118,7 @@ returned-e-requires c = tt
 
 -- its rule is done
 abbrev Returned : Type 0
-Returned = lts.After-returned-e
+Returned = lts.After-returned
 
 abbrev due : Returned → Due-now
 due c = c
@@ -245,7 +245,7 @@ pub wide-i-requires : goal.wide-i-requires
 wide-i-requires c = tt
 
 -- the head is a thread number
-head_small : (c : lts.After-wide-i) → c.wide-i.result < 32
+head_small : (c : lts.After-wide) → c.wide-i.result < 32
 head_small c =
     let a = c in
     let t = c in
@@ -271,12 +271,12 @@ due_by-requires-in-loop-j c = tt
 
 -- what is known once the next moment is
 abbrev Read : Type 0
-Read = lts.After-earlier_of-m
+Read = lts.After-earlier_of
 
-abbrev wide : Read → lts.After-wide-i
+abbrev wide : Read → lts.After-wide
 wide e = e.before.before.before
 
-abbrev top : Read → lts.After-highest-p
+abbrev top : Read → lts.After-highest
 top e = (wide e).before.before.before.before
 
 abbrev begun : Read → Here
@@ -315,7 +315,7 @@ telling e = (begun e).loop.inv.telling
 -- ---- no moment is due by t
 
 
-not-due : (c : lts.Then-not-due_by) → due_by (turn c).moment (turn c).to ≡ false
+not-due : (c : lts.Then2) → due_by (turn c).moment (turn c).to ≡ false
 not-due c = sym c.due_by-in-loop-j.ensures ∙ not-true c.due_by-in-loop-j.result c.if-not-due_by.true
 
 pub overflow_sub-k : goal.overflow_sub-k
@@ -343,7 +343,7 @@ returns-then-not-due_by c =
 -- ---- a moment is due by t
 
 
-is-due : (c : lts.Else-not-due_by) → due_by (turn c).moment (turn c).to ≡ true
+is-due : (c : lts.Else2) → due_by (turn c).moment (turn c).to ≡ true
 is-due c = sym c.due_by-in-loop-j.ensures ∙ not-false c.due_by-in-loop-j.result c.if-not-due_by.false
 
 pub overflow_sub-k-in-loop-j : goal.overflow_sub-k-in-loop-j
@@ -360,7 +360,7 @@ limit_first-requires c = tt
 
 -- the ticks are charged
 abbrev Charged : Type 0
-Charged = lts.After-charged_idle-in-loop-j
+Charged = lts.After-charged_idle2
 
 abbrev read : Charged → Read
 read c = c
@@ -394,7 +394,7 @@ offset_bounds-s-i-then-not-limit_first c = omega (arith, head_small (wide (read 
 pub bounds-s-i-then-not-limit_first : goal.bounds-s-i-then-not-limit_first
 bounds-s-i-then-not-limit_first c = head_small (wide (read c))
 
-no-limit : (c : lts.Then-not-limit_first) → eqb (turn_of c).moment (turn_of c).limit ≡ false
+no-limit : (c : lts.Then3) → eqb (turn_of c).moment (turn_of c).limit ≡ false
 no-limit c = sym (is-limit c) ∙ not-true c.limit_first.result c.if-not-limit_first.true
 
 pub loop-j-smaller-then-not-limit_first : goal.loop-j-smaller-then-not-limit_first
@@ -413,7 +413,7 @@ loop-j-preserved-then-not-limit_first c =
 -- ---- the end of a quantum
 
 
-at-limit : (c : lts.Else-not-limit_first) → eqb (turn_of c).moment (turn_of c).limit ≡ true
+at-limit : (c : lts.Else3) → eqb (turn_of c).moment (turn_of c).limit ≡ true
 at-limit c = sym (is-limit c) ∙ not-false c.limit_first.result c.if-not-limit_first.false
 
 pub with_full_quantum-full-requires : goal.with_full_quantum-full-requires
@@ -432,7 +432,7 @@ rotate-requires c = let e = c in let d = e in ended-rotatable (turn_of d) (ticke
 abbrev Rotated : Type 0
 Rotated = lts.After-rotate
 
-abbrev limited : Rotated → lts.Else-not-limit_first
+abbrev limited : Rotated → lts.Else3
 limited c = c
 
 abbrev ending : Rotated → Charged
@@ -469,9 +469,9 @@ loop-j-preserved-then-after-eq1 c =
 
 -- the thread is sporadic
 abbrev Sporadic : Type 0
-Sporadic = lts.Else-after-eq1
+Sporadic = lts.Else4
 
-abbrev reaching : Sporadic → lts.Else-not-limit_first
+abbrev reaching : Sporadic → lts.Else3
 reaching c = c
 
 abbrev spent : Sporadic → Charged
@@ -482,7 +482,7 @@ reached-e-requires c = (limit-requires (turn_of (spent c)) (ticked (spent c)) (a
 
 -- the account's rule is done
 abbrev Ruled : Type 0
-Ruled = lts.After-reached-e
+Ruled = lts.After-reached
 
 abbrev of : Ruled → Charged
 of c = spent c

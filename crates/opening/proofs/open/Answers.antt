@@ -10,7 +10,7 @@ use Rattle.opening.proofs.open.Goals as goal
 
 -- the table is judged, and the slots are 0
 abbrev Judged : Type 0
-Judged = lts.After-open_status-status
+Judged = lts.After-open_status
 
 abbrev started : Judged → lts.Start
 started c = c

@@ -21,7 +21,7 @@ sound c = state-out (state_given c) c.requires
 
 -- the head of the highest list is read
 abbrev Topped : Type 0
-Topped = lts.After-wide-i
+Topped = lts.After-wide
 
 abbrev start : Topped → lts.Start
 start c = c

@@ -116,19 +116,19 @@ parts b =
     let a = b.args in
     state_of a.header a.time a.idle a.word a.t5 a.counts.now a.dues.now a.amounts.now a.lists.now
 
-abbrev scanning : lts.At-loop-k → State
+abbrev scanning : lts.At-loop → State
 scanning b = parts b.before.before.before.before.before.before.before.before.before
 
-abbrev passing : lts.At-loop-i → State
+abbrev passing : lts.At-loop2 → State
 passing b = scanning b.before.before.before.before.before.before.before
 
-bounds : (b : lts.At-loop-k) → Bounds (scanning b)
+bounds : (b : lts.At-loop) → Bounds (scanning b)
 bounds b =
     let a = b.before.before.before.before.before.before.before.before.before in
     record { few = b.before.before.before.before.before.if2.false; dues = a.requires.1; amounts = a.requires.2 }
 
 -- a turn of the second loop is for a thread
-within : (c : lts.In-loop-i) → c.loop-i.i < 32
+within : (c : lts.In-loop2) → c.loop-i.i < 32
 within c = below_all _ (passing c).header.n 32 c.loop-i-test.true c.loop-i.invariant.few
 
 -- what was answered for thread i, below N

@@ -19,7 +19,7 @@ pub pending_bit-word-requires : goal.pending_bit-word-requires
 pending_bit-word-requires c = omega arith
 
 -- the word with the bit of the thread that was read
-more : (c : lts.After-pending_bit-word)
+more : (c : lts.After-pending_bit)
     → let b = c in
     (b.loop-k.word + c.pending_bit-word.result < 2 ^ suc b.loop-k.k)
     × ((j : ℕ) → j < suc b.loop-k.k → digit j (b.loop-k.word + c.pending_bit-word.result) ≡ pending_digit b.args.counts.now j)

@@ -14,28 +14,28 @@ use Rattle.ready_removal.proofs.remove.Lts as lts
 use Rattle.ready_removal.proofs.remove.Goals as goal
 
 -- the entry, where the row starts, and the array at entry and at exit
-abbrev entry : lts.After-wide-k → lts.Start
+abbrev entry : lts.After-wide → lts.Start
 entry c = c
 
-abbrev row : lts.After-wide-k → ℕ
+abbrev row : lts.After-wide → ℕ
 row c = c.row_start-at.result
 
-abbrev array : lts.After-wide-k → List ℕ
+abbrev array : lts.After-wide → List ℕ
 array c = (entry c).args.lists.now
 
-abbrev result : lts.After-wide-k → List ℕ
+abbrev result : lts.After-wide → List ℕ
 result c = removed (entry c).args.p (entry c).args.i (array c)
 
 -- where the length was read, from where the gap is closed
-abbrev wide : lts.After-close → lts.After-wide-k
+abbrev wide : lts.After-close → lts.After-wide
 wide c = c
 
 -- the length that was read
-read : (c : lts.After-wide-k) → get_or (array c) (row c) 0 ≡ size_at (array c) (entry c).args.p
+read : (c : lts.After-wide) → get_or (array c) (row c) 0 ≡ size_at (array c) (entry c).args.p
 read c = size-read (entry c).args.p (row c) (array c) c.row_start-at.ensures
 
 -- where the thread stands
-found : (c : lts.After-index_of-j)
+found : (c : lts.After-index_of)
     → (c.index_of-j.result ≡ index_of (entry c).args.i (threads (entry c).args.p (array c)))
     × (c.index_of-j.result < c.wide-k.result)
     × (c.wide-k.result ≤ 32)

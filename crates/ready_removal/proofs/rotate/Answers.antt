@@ -12,17 +12,17 @@ use Rattle.ready_removal.proofs.rotate.Lts as lts
 use Rattle.ready_removal.proofs.rotate.Goals as goal
 
 -- the entry, where the row starts, and the array at entry
-abbrev entry : lts.After-wide-n → lts.Start
+abbrev entry : lts.After-wide → lts.Start
 entry c = c
 
-abbrev row : lts.After-wide-n → ℕ
+abbrev row : lts.After-wide → ℕ
 row c = c.row_start-at.result
 
-abbrev array : lts.After-wide-n → List ℕ
+abbrev array : lts.After-wide → List ℕ
 array c = (entry c).args.lists.now
 
 -- the length that was read
-read : (c : lts.After-wide-n) → c.wide-n.result ≡ size_at (array c) (entry c).args.p
+read : (c : lts.After-wide) → c.wide-n.result ≡ size_at (array c) (entry c).args.p
 read c = c.wide-n.ensures ∙ size-read (entry c).args.p (row c) (array c) c.row_start-at.ensures
 
 pub row_start-at-requires : goal.row_start-at-requires

@@ -14,7 +14,7 @@ pub loop-rest-init : goal.loop-rest-init
 loop-rest-init c = let a = c.args in pass-start a.word a.lists.now a.places _ (omega arith) (omega arith) (omega arith)
 
 -- the list that is next
-upcoming : (c : lts.In-loop-rest) → Next c.loop-rest.rest c.loop-rest.end
+upcoming : (c : lts.In-loop) → Next c.loop-rest.rest c.loop-rest.end
 upcoming c =
     let b = c in
     let a = b.args in
@@ -27,7 +27,7 @@ record Begins (p at end : ℕ) : Type 0 where
   row : at + 33 ≤ end
   within : end ≤ 1056
 
-begins : (c : lts.After-row_start-at) → Begins c.highest-p.result c.row_start-at.result c.loop-rest.end
+begins : (c : lts.After-row_start) → Begins c.highest-p.result c.row_start-at.result c.loop-rest.end
 begins c =
     let x = upcoming c in
     let p : c.highest-p.result ≡ suc x.list = c.highest-p.ensures ∙ x.highest in

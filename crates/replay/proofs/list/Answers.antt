@@ -12,11 +12,11 @@ use Rattle.replay.proofs.list.Goals as goal
 
 -- src/main.rt:25:38
 pub slice_bounds-out-end : goal.slice_bounds-out-end
-slice_bounds-out-end c = (listed-part _ _ c.listing-listed.new.1.0 _ c.listing-listed.ensures.0 c.listing-listed.auto.1.0).0
+slice_bounds-out-end c = (listed-part _ _ c.listing-listed.new.1.0 _ c.listing-listed.ensures.0 c.listing-listed.auto.out.0).0
 
 -- src/main.rt:25:38
 pub slice_bounds-write_all-end : goal.slice_bounds-write_all-end
-slice_bounds-write_all-end c = (listed-part _ _ c.listing-listed.new.1.0 _ c.listing-listed.ensures.0 c.listing-listed.auto.1.0).1
+slice_bounds-write_all-end c = (listed-part _ _ c.listing-listed.new.1.0 _ c.listing-listed.ensures.0 c.listing-listed.auto.out.0).1
 
 -- src/main.rt:26:18
 slice-aggregate-fail : tie.Need-slice-aggregate-fail

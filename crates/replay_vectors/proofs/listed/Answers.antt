@@ -11,8 +11,8 @@ use Rattle.replay_vectors.proofs.listed.Goals as goal
 
 -- src/main.rt:59:34
 pub slice_bounds-out-end : goal.slice_bounds-out-end
-slice_bounds-out-end c = (listed-part _ _ c.listing-r.new.1.0 _ c.listing-r.ensures.0 c.listing-r.auto.1.0).0
+slice_bounds-out-end c = (listed-part _ _ c.listing-r.new.1.0 _ c.listing-r.ensures.0 c.listing-r.auto.out.0).0
 
 -- src/main.rt:59:34
 pub slice_bounds-write_all-end : goal.slice_bounds-write_all-end
-slice_bounds-write_all-end c = (listed-part _ _ c.listing-r.new.1.0 _ c.listing-r.ensures.0 c.listing-r.auto.1.0).1
+slice_bounds-write_all-end c = (listed-part _ _ c.listing-r.new.1.0 _ c.listing-r.ensures.0 c.listing-r.auto.out.0).1

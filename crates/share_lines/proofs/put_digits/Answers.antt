@@ -17,10 +17,10 @@ pub put_byte-requires : goal.put_byte-requires
 put_byte-requires c =
     let p = c.put_float-at in
     let s = c in
-    omega (arith, p.ensures.1, p.auto.0, s.requires.1)
+    omega (arith, p.ensures.1, p.auto.out, s.requires.1)
 
 pub shape_of-out : goal.shape_of-out
-shape_of-out c = c.put_byte.auto.0 ∙ c.put_float-at.auto.0
+shape_of-out c = c.put_byte.auto.out ∙ c.put_float-at.auto.out
 
 pub returns : goal.returns
 returns c =

@@ -19,17 +19,17 @@ pub put_field-at-requires : goal.put_field-at-requires
 put_field-at-requires c =
     let w = c.put_word-at in
     let s = c in
-    omega (arith, s.requires.1, s.requires.2, w.ensures.next, w.auto.0, byte-length space s.ranges.thread)
+    omega (arith, s.requires.1, s.requires.2, w.ensures.next, w.auto.out, byte-length space s.ranges.thread)
 
 pub put_digits-requires : goal.put_digits-requires
 put_digits-requires c =
     let f = c.put_field-at in
     let w = c.put_word-at in
     let s = c in
-    (s.requires.0, omega (arith, s.requires.1, s.requires.2, f.ensures.next, f.auto.0, w.ensures.next, w.auto.0, byte-length space s.ranges.thread))
+    (s.requires.0, omega (arith, s.requires.1, s.requires.2, f.ensures.next, f.auto.out, w.ensures.next, w.auto.out, byte-length space s.ranges.thread))
 
 pub shape_of-out : goal.shape_of-out
-shape_of-out c = c.put_digits.auto.0 ∙ c.put_field-at.auto.0 ∙ c.put_word-at.auto.0
+shape_of-out c = c.put_digits.auto.out ∙ c.put_field-at.auto.out ∙ c.put_word-at.auto.out
 
 pub returns : goal.returns
 unfolding leader_line

@@ -45,16 +45,16 @@ put_field-at-requires-3 c =
     room-d a.out.now a.at share_word (field a.i space) (field a.total space) (field a.elapsed space) (room s) w.put_word-at.ensures c.put_field-at.ensures c.put_field-at-2.ensures
 
 -- where the numbers are put
-abbrev started : lts.After-slice_known-5-1 → lts.Start
+abbrev started : lts.After-slice_known5 → lts.Start
 started c = c
 
-abbrev Numbers : lts.After-slice_known-5-1 → Type 0
+abbrev Numbers : lts.After-slice_known5 → Type 0
 Numbers c =
     let a = (started c).args in
     let r = c.put_field-at-3 in
     Put a.out.now a.at (share_word ++ field a.i space ++ field a.total space ++ field a.elapsed space) r.new.0 r.result × (r.result ≤ a.at + numbers_most)
 
-numbers : (c : lts.After-slice_known-5-1) → Numbers c
+numbers : (c : lts.After-slice_known5) → Numbers c
 numbers c =
     let s = started c in
     let a = s.args in
@@ -68,7 +68,7 @@ put_end-requires c =
     (s.pre.0, omega (arith, n.1, length-put (room s) n.0, s.pre.1))
 
 pub shape_of-out : goal.shape_of-out
-shape_of-out c = c.put_end.auto.0 ∙ length-put (room (started c)) (numbers c).0
+shape_of-out c = c.put_end.auto.out ∙ length-put (room (started c)) (numbers c).0
 
 pub returns : goal.returns
 unfolding share_line

@@ -30,11 +30,11 @@ put_summary-requires c =
     let s = c in
     let t = c.put_threads-at in (
       summary-shown-as (state_given s) s.requires.0 c.summary_of-x.result c.summary_of-x.ensures,
-      omega (arith, s.requires.1, t.ensures.1, t.auto.0),
+      omega (arith, s.requires.1, t.ensures.1, t.auto.out),
     )
 
 pub shape_of-out : goal.shape_of-out
-shape_of-out c = c.put_summary.auto.0 ∙ c.put_threads-at.auto.0
+shape_of-out c = c.put_summary.auto.out ∙ c.put_threads-at.auto.out
 
 pub returns : goal.returns
 returns c =

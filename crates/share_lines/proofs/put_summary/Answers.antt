@@ -25,10 +25,10 @@ pub put_leader-requires : goal.put_leader-requires
 put_leader-requires c =
     let p = c.put_leader-at in
     let s = c in
-    ((subst ShownSummary c.x-1.given.1 s.requires.0).1, omega arith, omega (arith, s.requires.1, p.ensures.1, p.auto.0))
+    ((subst ShownSummary c.x-1.given.1 s.requires.0).1, omega arith, omega (arith, s.requires.1, p.ensures.1, p.auto.out))
 
 pub shape_of-out : goal.shape_of-out
-shape_of-out c = c.put_leader.auto.0 ∙ c.put_leader-at.auto.0
+shape_of-out c = c.put_leader.auto.out ∙ c.put_leader-at.auto.out
 
 pub returns : goal.returns
 unfolding summary_lines

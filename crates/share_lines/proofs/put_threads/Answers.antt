@@ -70,7 +70,7 @@ loop-i-preserved c =
     let w = c.loop-i in
     let s = c in (
       omega arith,
-      p.auto.0 ∙ w.invariant.1,
+      p.auto.out ∙ w.invariant.1,
       omega (arith, w.invariant.2, p.ensures.1),
       lines_next (state_given s) w.i x.result (omega (arith, s.requires.1, w.invariant.2, k, (sound-times s).few)) w.invariant.3 x.ensures p.ensures.0,
     )

@@ -26,11 +26,11 @@ abbrev begun : lts.After-sound → lts.Start
 begun c = c
 
 -- it is sound
-judged : (c : lts.Else-not-sound) → sound_state (state_given (begun c)) ≡ true
+judged : (c : lts.Else1) → sound_state (state_given (begun c)) ≡ true
 judged c = sym c.sound.ensures ∙ not-false _ c.if-not-sound.false
 
 -- where time has passed
-abbrev passed : lts.After-leading-l → lts.Else-elapsed-eq0
+abbrev passed : lts.After-leading → lts.Else2
 passed c = c
 
 pub returns-then-not-sound : goal.returns-then-not-sound

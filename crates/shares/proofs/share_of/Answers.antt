@@ -20,7 +20,7 @@ abbrev begun : lts.After-sound → lts.Start
 begun c = c
 
 -- it is sound
-judged : (c : lts.Else-not-sound) → sound_state (state_given (begun c)) ≡ true
+judged : (c : lts.Else1) → sound_state (state_given (begun c)) ≡ true
 judged c = sym c.sound.ensures ∙ not-false _ c.if-not-sound.false
 
 pub returns-then-not-sound : goal.returns-then-not-sound
@@ -40,7 +40,7 @@ returns-then-c c =
     sym (share-none (state_given s) s.args.thread (judged e) e.if-c-thread.false (omega (arith, c.if-c.true)))
 
 -- what is known where time has passed
-abbrev known : (c : lts.Else-c) → Times (state_given (begun c)) (begun c).args.thread
+abbrev known : (c : lts.Else3) → Times (state_given (begun c)) (begun c).args.thread
 known c = times _ _ (judged c)
 
 pub bounds-c-thread : goal.bounds-c-thread

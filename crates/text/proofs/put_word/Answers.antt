@@ -30,7 +30,7 @@ loop-i-preserved c =
     let w = c.loop-i in
     let s = c in (
       omega arith,
-      c.put_byte-here.auto.0 ∙ w.invariant.1,
+      c.put_byte-here.auto.out ∙ w.invariant.1,
       word_next s.args.word.now w.i s.requires c.loop-i-test.true w.invariant.2 c.put_byte-here.ensures,
     )
 

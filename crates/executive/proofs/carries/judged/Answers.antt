@@ -20,7 +20,7 @@ returns-then-not-stand c =
 pub wide-i-requires : goal.wide-i-requires
 wide-i-requires c = tt
 
-there : (c : lts.After-wide-i) → c.wide-i.result < 32
+there : (c : lts.After-wide) → c.wide-i.result < 32
 there c = omega (arith, c.wide-i.ensures, c.requires (not-false _ c.if-not-stand.false))
 
 pub offset_bounds-s-i : goal.offset_bounds-s-i

@@ -20,7 +20,7 @@ own_back-requires c = λ k l. (c.requires.3.1 k l).0
 pub tell_back-requires : goal.tell_back-requires
 tell_back-requires c = let g = c in (g.requires.0, subst⁻¹ (λ (n : ℕ). Tellable (n + 1) g.args.told.now) c.own_back.ensures g.requires.3.3)
 
-abbrev given : lts.After-pending_at-q → lts.Start
+abbrev given : lts.After-pending_at → lts.Start
 given c = c
 
 pub pending_at-q-requires : goal.pending_at-q-requires
@@ -33,7 +33,7 @@ change_of-c-requires c =
     (p.0, λ k l. subst⁻¹ (λ (q : Pending). Schedulable t.parameters t.server q.count) c.pending_at-q.ensures (p.1 k l), p.2)
 
 -- the change
-made : (c : lts.After-change_of-c)
+made : (c : lts.After-change_of)
     → c.change_of-c.result ≡ change_in (given c).args.e (given c).args.t (given c).args.i (given c).args.counts.now (given c).args.dues.now (given c).args.amounts.now
 made c =
     let a = (given c).args in

@@ -19,15 +19,15 @@ use Rattle.listing.proofs.replay.put_events.Goals as goal
 
 -- a step is taken
 abbrev Taken : Type 0
-Taken = lts.After-step_at-step
+Taken = lts.After-step_at
 
-abbrev turn : Taken → lts.At-loop-i
+abbrev turn : Taken → lts.At-loop
 turn c = c
 
-abbrev started : lts.At-loop-i → lts.Start
+abbrev started : lts.At-loop → lts.Start
 started c = c
 
-abbrev state_here : lts.At-loop-i → State
+abbrev state_here : lts.At-loop → State
 state_here c = whole c.loop-i.s c.loop-i.dues c.loop-i.amounts
 
 abbrev step : Taken → FileStep
@@ -62,7 +62,7 @@ loop-i-preserved c =
     let g = goes_on (state_here h) a.file.now w.offset (most_events - (w.i + 1)) (step t) t.step_at-step.ensures.0 (not-false _ n.if-not-step.false) in (
       omega arith,
       t.step_at-step.ensures.1.0,
-      p.put_event-here.auto.0 ∙ w.inv.2,
+      p.put_event-here.auto.out ∙ w.inv.2,
       omega (arith, w.inv.3, p.put_event-here.ensures.1),
       sym g.state ∙ rw k at w.inv.4,
       printed-next _ _ (omega (arith, (started h).pre.1, w.inv.3)) w.inv.5 (rw k (line-next (state_here h) a.file.now w.offset (most_events - (w.i + 1)) w.i (step t) g)) p.put_event-here.ensures.0,

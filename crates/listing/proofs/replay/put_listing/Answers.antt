@@ -10,7 +10,7 @@ use Rattle.listing.proofs.replay.put_listing.Goals as goal
 
 -- the file is begun
 abbrev Begins : Type 0
-Begins = lts.After-begin-begun
+Begins = lts.After-begin
 
 abbrev started : Begins → lts.Start
 started c = c
@@ -20,12 +20,12 @@ beginning c = begun_with c.begin-begun.result c.begin-begun.new.1.0 c.begin-begu
 
 -- the lines of its events are put
 abbrev Lined : Type 0
-Lined = lts.After-put_events-ended
+Lined = lts.After-put_events
 
-abbrev headed : Lined → lts.After-put_header-here
+abbrev headed : Lined → lts.After-put_header
 headed c = c
 
-abbrev opens : lts.After-put_header-here → lts.Else-begun-ne0
+abbrev opens : lts.After-put_header → lts.Else1
 opens c = c
 
 pub returns-then-begun-ne0 : goal.returns-then-begun-ne0
@@ -43,7 +43,7 @@ put_events-ended-requires c =
     let h = c in
     let b = (opens h).before.before in (
       b.begin.ensures.1 (opens h).if1.false,
-      omega (arith, h.put_header-here.ensures.next, h.put_header-here.auto.0, (started b).pre),
+      omega (arith, h.put_header-here.ensures.next, h.put_header-here.auto.out, (started b).pre),
     )
 
 pub put_threads-requires : goal.put_threads-requires
@@ -52,7 +52,7 @@ put_threads-requires c =
     let h = headed l in
     let b = (opens h).before.before in (
       few _ l.put_events-ended.ensures.1.1,
-      omega (arith, h.put-header.ensures.next, h.put-header.kept.0, l.put_events-ended.auto.0, l.put_events-ended.ensures.1.2, (started b).pre),
+      omega (arith, h.put-header.ensures.next, h.put-header.kept.0, l.put_events-ended.auto.out, l.put_events-ended.ensures.1.2, (started b).pre),
     )
 
 pub returns : goal.returns

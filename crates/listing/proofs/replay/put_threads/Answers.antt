@@ -26,7 +26,7 @@ loop-i-preserved c =
     let p = c.put_thread-here in
     let a = c in (
       omega arith,
-      p.auto.0 ∙ w.invariant.1,
+      p.auto.out ∙ w.invariant.1,
       omega (arith, w.invariant.2, p.ensures.1),
       λ d m. threads-next (whole a.args.c d m) w.i (omega (arith, a.requires.0, a.requires.1, w.invariant.2)) (w.invariant.3 d m) p.ensures.0,
     )
@@ -38,7 +38,7 @@ put_labelled-requires c =
     omega (arith, a.requires.0, a.requires.1, w.invariant.1, w.invariant.2)
 
 pub shape_of-out : goal.shape_of-out
-shape_of-out c = c.put_labelled.auto.0 ∙ c.loop-i.invariant.1
+shape_of-out c = c.put_labelled.auto.out ∙ c.loop-i.invariant.1
 
 pub returns : goal.returns
 unfolding idle_line

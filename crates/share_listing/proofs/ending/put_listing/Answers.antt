@@ -11,7 +11,7 @@ use Rattle.share_listing.proofs.ending.put_listing.Goals as goal
 
 -- the file is begun
 abbrev Begins : Type 0
-Begins = lts.After-begin-begun
+Begins = lts.After-begin
 
 abbrev started : Begins → lts.Start
 started c = c
