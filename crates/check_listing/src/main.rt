@@ -60,7 +60,7 @@ fn judge(file: &[u8], theirs: &[u8]) -> u8
     checked.verdict
 }
 
-// A trace has at most 60,800 bytes and its listing at most 53,600: of a longer file the first 65,536 have the verdict that all of it
+// A trace has at most 60,800 bytes and its listing at most 54,000: of a longer file the first 65,536 have the verdict that all of it
 // has (`LongIsRefused`, `StartDecides`).
 fn main() {
     let mut file = io::large_buffer();
