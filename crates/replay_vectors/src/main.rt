@@ -5,7 +5,8 @@
 
 ghost use Rattle.io.specs.Counts.{IsPrefixLen};
 
-use libc::STDOUT_FILENO;
+const STDOUT_FILENO: i32 = 1;
+
 
 fn wide(b: u8) -> u64 {
     b as u64
