@@ -5,7 +5,8 @@ use Rattle.trace_reader.specs.Reader.{first_offset}
 use Rattle.events.specs.Opening.{no_state}
 use Rattle.passing.specs.Sequence.{Answer}
 use Rattle.state.specs.declared.State.{State}
-use Rattle.replay_steps.specs.FileSteps.{opening_of, begun_of, answers_from, last_of}
+use Rattle.replay_steps.specs.FileSteps.{opening_of, begun_of, answers_from}
+pub use Rattle.replay_steps.specs.FileSteps.{last_of}
 
 -- 01 Events 8, 01 Readings 4: the answer to the last of a file's first `count` events, each being given the state that the one before it
 -- returned, or else to the opening. Ours: a count above the number of events stands for all of them. 01 Status 20, 01 Replay 8: a file

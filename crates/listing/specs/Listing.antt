@@ -26,7 +26,7 @@ buffer_of file out = cond (leb (length (listing_of file)) (length out)) (listing
 
 -- a buffer of so many bytes is never too short
 abbrev pub largest : ℕ
-largest = 53600
+largest = 54000
 
 -- 01 Status 12: a file longer than any trace is refused with 11 whatever it holds. So its first bytes, if they are more than these, have the listing that all of it has.
 abbrev pub LongIsRefused : Type 0

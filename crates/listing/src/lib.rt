@@ -10,7 +10,7 @@ mod replay; // replay.rt: the lines of a file
 use text::put_word;
 
 // A buffer of so many bytes is long enough for every file's listing.
-pub const LARGEST: usize = 53600;
+pub const LARGEST: usize = 54000;
 
 // 0 and how many bytes were written, or 12 and 0 where the buffer is too short.
 #[repr(C)]

@@ -164,7 +164,7 @@ module _ {S E R : Type 0} (M : Machine S E) (P : Reports S R) (own : S → E →
         let r = reading-answer M L s e a t o.0 hi in
         let n = reading-now M L s e a t o.0 hi in
         ap (λ (b : Answer S). P.plus (told s (M.reading t)) (total P (all_told b.state (map M.reading ts ++ e ∷ [])))) r
-        ∙ ap (P.plus (told s (M.reading t))) (total-adds _ ts e (reading-acceptable M L s e a t o.0 hi) (rw n o.1))
+        ∙ ap (P.plus (told s (M.reading t))) (total-adds (advance C s t) ts e (reading-acceptable M L s e a t o.0 hi) (rw n o.1))
         ∙ reading-adds s e a t o.0 hi
 
     entry-adds : (s : S) (ts : List ℕ) (e : E) → Allowed M s s ts e → total P (all_told s (map M.reading ts ++ e ∷ [])) ≡ told s e
@@ -174,11 +174,11 @@ module _ {S E R : Type 0} (M : Machine S E) (P : Reports S R) (own : S → E →
     -- one sequence after another
     reports-append : (s : S) (p q : List E) → all_told s (p ++ q) ≡ all_told s p ++ all_told (end M s p) q
     reports-append s [] q = refl
-    reports-append s (e ∷ p) q = ap (λ (l : List R). told s e ∷ l) (reports-append _ p q)
+    reports-append s (e ∷ p) q = ap (λ (l : List R). told s e ∷ l) (reports-append (answer M s e).state p q)
 
     reports-length : (s : S) (es : List E) → length (all_told s es) ≡ length es
     reports-length s [] = refl
-    reports-length s (e ∷ es) = ap suc (reports-length _ es)
+    reports-length s (e ∷ es) = ap suc (reports-length (answer M s e).state es)
 
     -- an entry's places, then the others
     split : (p : List R) (r : R) (q : List R) (n : ℕ) → length p ≡ n → (take (suc n) (p ++ r ∷ q) ≡ p ++ r ∷ []) × (drop (suc n) (p ++ r ∷ q) ≡ q)

@@ -11,4 +11,4 @@ made c u a = record { capacity = c; used = u; activation = a }
 pub returns : goal.returns
 returns c =
     let s = c.args.s in
-    ap (λ (n : ℕ). made n s.used s.activation) c.up_to_lem.ensures
+    ap (λ (n : ℕ). made n s.used s.activation) c.up_to.ensures
