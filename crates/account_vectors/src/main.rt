@@ -4,9 +4,10 @@
 #![tactic(auto)]
 
 use account::{Account, Outcome, Pending};
-use libc::STDOUT_FILENO;
 use records::Parameters;
 use sporadic::{Place, Server};
+
+const STDOUT_FILENO: i32 = 1;
 
 fn number(n: u64) {
     io::print_decimal(STDOUT_FILENO, n);
@@ -83,12 +84,15 @@ fn sporadic(budget: u64, period: u64, max_repl: u8) -> Parameters {
 fn run(p: Parameters, a: Account, k: u64, now: u64) -> Account {
     let s = a.server;
     if s.capacity < k {
+        title(b"no capacity");
         return a;
     }
     if 1000000000 < s.capacity {
+        title(b"too much capacity");
         return a;
     }
     if 1000000000 < s.used {
+        title(b"too much used");
         return a;
     }
     let t = sporadic::charge(s, k);
@@ -161,31 +165,42 @@ fn replay() {
     end_line();
 }
 
-// 01's rows: one replenishment at a time; the budget is the period; preempted from 4 to 20; a wake and a block at one time schedule
-// nothing.
-fn rows() {
+// 01's row: one replenishment at a time.
+fn one_pending() {
     title(b"max_repl 1");
-    let mut p = sporadic(10, 40, 1);
+    let p = sporadic(10, 40, 1);
     let mut a = account_making::fresh(p, 0);
     a = run(p, a, 3, 3);
     a = block(p, a, false, 3);
     a = wake(p, a, true, 5);
     a = due(p, a, false, 39);
     due(p, a, false, 40);
+}
+
+// 01's row: the budget is the period.
+fn budget_is_period() {
     title(b"budget = period");
-    p = sporadic(10, 10, 2);
-    a = account_making::fresh(p, 0);
+    let p = sporadic(10, 10, 2);
+    let mut a = account_making::fresh(p, 0);
     a = run(p, a, 10, 10);
     limit(p, a, false, 10);
+}
+
+// 01's row: preempted from 4 to 20.
+fn preempted() {
     title(b"preempted");
-    p = sporadic(10, 12, 2);
-    a = account_making::fresh(p, 0);
+    let p = sporadic(10, 12, 2);
+    let mut a = account_making::fresh(p, 0);
     a = run(p, a, 4, 4);
     a = run(p, a, 6, 26);
     limit(p, a, false, 26);
+}
+
+// 01's row: a wake and a block at one time schedule nothing.
+fn wake_and_block() {
     title(b"wake and block");
-    p = sporadic(10, 40, 2);
-    a = account_making::fresh(p, 0);
+    let p = sporadic(10, 40, 2);
+    let mut a = account_making::fresh(p, 0);
     a = block(p, a, false, 0);
     a = wake(p, a, true, 7);
     block(p, a, false, 7);
@@ -225,15 +240,23 @@ fn at_once() {
     block(p, a, false, 10);
 }
 
-// What comes back, and accounts that no sound state has.
 fn returned() {
     title(b"returned while blocked, and while at the upper priority");
     let p = sporadic(10, 40, 2);
     due(p, made(4, 0, 15, 1, 40, 6, 0, 0), true, 40);
     due(p, made(4, 0, 15, 1, 40, 6, 0, 0), false, 40);
+}
+
+// Accounts that no sound state has.
+fn unsound_returned() {
     title(b"held at the budget; two due at one instant");
+    let p = sporadic(10, 40, 2);
     due(p, made(8, 0, 0, 1, 40, 6, 0, 0), true, 40);
     due(p, made(0, 0, 0, 2, 40, 3, 40, 4), false, 40);
+}
+
+fn unsound_edges() {
+    let p = sporadic(10, 40, 2);
     title(b"a wake with max_repl pending is at low");
     wake(p, made(2, 0, 15, 2, 40, 4, 41, 4), true, 20);
     title(b"a limit with nothing charged");
@@ -241,15 +264,23 @@ fn returned() {
 }
 
 // A rule that does not concern the thread leaves the account alone.
-fn unconcerned() {
+fn unconcerned_limit() {
     title(b"a limit of a blocked thread, and of a runnable one");
     let p = sporadic(10, 40, 2);
     limit(p, made(0, 10, 0, 0, 0, 0, 0, 0), true, 20);
     limit(p, made(0, 10, 0, 0, 0, 0, 0, 0), false, 20);
+}
+
+fn unconcerned_block() {
     title(b"a block of a blocked thread, and of a runnable one");
+    let p = sporadic(10, 40, 2);
     block(p, made(6, 4, 0, 0, 0, 0, 0, 0), true, 20);
     block(p, made(6, 4, 0, 0, 0, 0, 0, 0), false, 20);
+}
+
+fn unconcerned_wake() {
     title(b"a wake of a runnable thread, at upper and at low, and of a blocked one");
+    let p = sporadic(10, 40, 2);
     wake(p, made(4, 0, 15, 1, 40, 6, 0, 0), false, 20);
     wake(p, made(2, 0, 15, 2, 40, 4, 41, 4), false, 20);
     wake(p, made(4, 0, 15, 1, 40, 6, 0, 0), true, 20);
@@ -278,8 +309,8 @@ fn check(
     }
 }
 
-// Pairs on the two sides of each clause of soundness.
-fn sums_sound() {
+// Pairs on the two sides of each clause of soundness, a function for each clause.
+fn sum_sound() {
     title(b"sum is the budget");
     check(2, false, 0, 15, 4, 0, 15, 1, 40, 6, 0, 0);
     check(2, false, 0, 15, 5, 0, 15, 1, 40, 6, 0, 0);
@@ -287,16 +318,25 @@ fn sums_sound() {
     check(2, false, 0, 30, 18446744073709551615, 11, 15, 0, 0, 0, 0, 0);
     check(2, false, 0, 30, 10, 18446744073709551615, 15, 0, 0, 0, 0, 0);
     end_line();
+}
+
+fn used_sound() {
     title(b"U of a blocked or low thread is 0");
     check(2, false, 0, 17, 2, 2, 15, 1, 40, 6, 0, 0);
     check(2, true, 0, 17, 2, 2, 15, 1, 40, 6, 0, 0);
     check(2, false, 0, 17, 1, 1, 15, 2, 40, 6, 41, 2);
     check(2, false, 0, 17, 0, 2, 15, 1, 40, 8, 0, 0);
     end_line();
+}
+
+fn elapsed_sound() {
     title(b"U is at most now - activation");
     check(2, false, 0, 16, 2, 2, 15, 1, 40, 6, 0, 0);
     check(2, false, 0, 17, 2, 2, 18446744073709551615, 1, 40, 6, 0, 0);
     end_line();
+}
+
+fn activation_sound() {
     title(b"activation from start to now");
     check(2, false, 15, 15, 4, 0, 15, 1, 40, 6, 0, 0);
     check(2, false, 16, 16, 4, 0, 15, 1, 40, 6, 0, 0);
@@ -304,11 +344,14 @@ fn sums_sound() {
     end_line();
 }
 
-fn dues_sound() {
+fn dues_after_now() {
     title(b"dues after now");
     check(2, true, 0, 39, 4, 0, 15, 1, 40, 6, 0, 0);
     check(2, true, 0, 40, 4, 0, 15, 1, 40, 6, 0, 0);
     end_line();
+}
+
+fn dues_in_the_window() {
     title(
         b"dues at most 1,000,000,000 ticks after now, past now + period and past activation + period too",
     );
@@ -318,6 +361,9 @@ fn dues_sound() {
     check(2, true, 0, 15, 4, 0, 10, 1, 1000000016, 6, 0, 0);
     check(2, true, 0, 15, 4, 0, 10, 1, 18446744073709551615, 6, 0, 0);
     end_line();
+}
+
+fn dues_in_order() {
     title(b"dues don't fall");
     check(2, true, 0, 20, 2, 0, 15, 2, 40, 4, 41, 4);
     check(2, true, 0, 20, 2, 0, 15, 2, 40, 4, 40, 4);
@@ -325,15 +371,21 @@ fn dues_sound() {
     end_line();
 }
 
-fn places_sound() {
+fn amounts_sound() {
     title(b"amounts at least 1");
     check(2, true, 0, 20, 4, 0, 15, 2, 40, 6, 41, 0);
     end_line();
+}
+
+fn count_sound() {
     title(b"count at most max_repl, and at most the places");
     check(1, true, 0, 20, 2, 0, 15, 2, 40, 4, 41, 4);
     check(255, true, 0, 20, 2, 0, 15, 9, 40, 4, 41, 4);
     check(255, true, 0, 20, 2, 0, 15, 255, 40, 4, 41, 4);
     end_line();
+}
+
+fn places_sound() {
     title(b"places past the count hold 0");
     check(2, false, 0, 15, 4, 0, 15, 1, 40, 6, 7, 0);
     check(2, false, 0, 15, 4, 0, 15, 1, 40, 6, 0, 7);
@@ -343,11 +395,25 @@ fn places_sound() {
 
 fn main() {
     replay();
-    rows();
+    one_pending();
+    budget_is_period();
+    preempted();
+    wake_and_block();
     at_once();
     returned();
-    unconcerned();
-    sums_sound();
-    dues_sound();
+    unsound_returned();
+    unsound_edges();
+    unconcerned_limit();
+    unconcerned_block();
+    unconcerned_wake();
+    sum_sound();
+    used_sound();
+    elapsed_sound();
+    activation_sound();
+    dues_after_now();
+    dues_in_the_window();
+    dues_in_order();
+    amounts_sound();
+    count_sound();
     places_sound();
 }

@@ -4,10 +4,11 @@
 #![tactic(auto)]
 
 use counter::CounterEvent;
-use libc::STDOUT_FILENO;
 use records::{Header, Parameters, THREADS};
 use reports::NUMBERS;
 use rows::SLOTS;
+
+const STDOUT_FILENO: i32 = 1;
 
 // A time shortly before the counter wraps, and times far from it.
 const BEFORE_WRAP: u64 = 4294467296;

@@ -3,9 +3,10 @@
 #![tactic(auto)]
 
 use account::ENTRIES;
-use libc::STDOUT_FILENO;
 use records::THREADS;
 use rows::SLOTS;
+
+const STDOUT_FILENO: i32 = 1;
 
 #[derive(Clone, Copy)]
 struct Case {

@@ -10,6 +10,8 @@ mod report; // report.rt: a line for each case
 mod run; // run.rt: what a line does
 mod whole; // whole.rt: the executive on whole states
 
+const STDIN_FILENO: i32 = 0;
+
 // Takes the cases in byte by byte; a newline runs the line that it ends.
 fn cases(file: &[u8]) {
     let mut r = run::start();
@@ -30,6 +32,6 @@ fn cases(file: &[u8]) {
 
 fn main() {
     let mut file = io::large_buffer();
-    let n = io::read_full(libc::STDIN_FILENO, &mut file);
+    let n = io::read_full(STDIN_FILENO, &mut file);
     cases(&file[..n]);
 }

@@ -1,5 +1,6 @@
 // A line for each case: its name and `right`, or `WRONG` with the numbers that came and those that were expected.
-use libc::STDOUT_FILENO;
+
+const STDOUT_FILENO: i32 = 1;
 
 #[derive(Clone, Copy)]
 pub struct Tally {

@@ -1,9 +1,10 @@
 // Runs the stored cases over the lists and the word, and prints what each leaves. The expected output is the file stdout.
 #![tactic(auto)]
 
-use libc::STDOUT_FILENO;
 use ready::{LIST_BYTES, ROW_BYTES};
 use records::{HIGHEST_PRIORITY, THREADS};
+
+const STDOUT_FILENO: i32 = 1;
 
 // Lists, word and the place of every thread: the priority in whose list it must stand, 0 for none.
 #[derive(Clone, Copy)]

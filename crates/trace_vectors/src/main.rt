@@ -1,15 +1,20 @@
-// Runs the cases of the standard input: trace files that are made and damaged here. The head of the file `stdin` says what its lines
-// mean. Stored files are run by `replay_vectors`.
+// Runs the cases of the trace file: files that are made and damaged here. Stored files are run by `replay_vectors`.
 #![tactic(auto)]
 
-use libc::STDOUT_FILENO;
 use records::{Event, Header, Parameters};
+
+const STDOUT_FILENO: i32 = 1;
 
 fn wide(b: u8) -> u64 {
     b as u64
 }
 
-fn status_line(number: u64) {
+fn place(b: u8) -> usize {
+    b as usize
+}
+
+fn line(label: &[u8], number: u64) {
+    io::write_all(STDOUT_FILENO, label);
     io::write_all(STDOUT_FILENO, b" ");
     io::print_decimal(STDOUT_FILENO, number);
     io::write_all(STDOUT_FILENO, b"\n");
@@ -76,70 +81,124 @@ fn damaged(file: &mut [u8], len: usize, at: usize, b: u8) {
     io::write_all(STDOUT_FILENO, b" is ");
     io::print_decimal(STDOUT_FILENO, wide(b));
     io::write_all(STDOUT_FILENO, b":");
-    status_line(status(file, len));
+    line(b"", status(file, len));
     file[at] = old;
 }
 
-// A write that is refused, into a cleared buffer whose bytes are all kept.
-fn untouched(n: u32, count: usize, room: usize) {
+// The same for a value at each of some places, one after another.
+fn each_damaged(file: &mut [u8], len: usize, places: &[u8], values: &[u8]) {
+    let mut i = 0;
+    while i < places.len() {
+        if values.len() <= i {
+            return;
+        }
+        damaged(file, len, place(places[i]), values[i]);
+        i += 1;
+    }
+}
+
+// E = 0, and lengths that are off by one.
+fn lengths() {
     let mut file = io::large_buffer();
-    status_line(made(n, count, &mut file, room));
+    line(b"1 thread, 0 events", made(1, 0, &mut file, 65536));
+    line(b"as written", status(&file, 56));
+    line(b"one byte short", status(&file, 55));
+    line(b"one byte over", status(&file, 57));
+    line(b"31 bytes", status(&file, 31));
+}
+
+// Each field of a header off by one, both ways: format 1, 2 threads, 3 events, table at 32, events at 80, total 200. Then the start
+// time, 7, which is not judged.
+fn headers() {
+    let mut file = io::large_buffer();
+    line(b"2 threads, 3 events", made(2, 3, &mut file, 65536));
+    let places = [0u8, 0, 4, 4, 8, 8, 12, 12, 16, 16, 20, 20, 24];
+    let values = [2u8, 0, 3, 1, 4, 2, 33, 31, 81, 79, 201, 199, 8];
+    each_damaged(&mut file, 200, &places, &values);
+    line(b"as written", status(&file, 200));
+}
+
+// Each filler byte of the first of 3 events, which starts at 80, and of the last, which starts at 160, with the bytes beside them.
+fn fillers() {
+    let mut file = io::large_buffer();
+    line(b"2 threads, 3 events", made(2, 3, &mut file, 65536));
+    let places = [
+        89u8, 90, 91, 92, 93, 94, 95, 96, 169, 170, 171, 172, 173, 174, 175, 176,
+    ];
+    let values = [
+        1u8, 1, 1, 1, 1, 1, 1, 1, 128, 128, 128, 128, 128, 128, 128, 128,
+    ];
+    each_damaged(&mut file, 200, &places, &values);
+    line(b"as written", status(&file, 200));
+}
+
+// N at and past its limits. A header of 0 threads has its events at 32; one of 33 at 824, 0x338.
+fn few_threads() {
+    let mut file = io::large_buffer();
+    line(b"write 0 threads", made(0, 0, &mut file, 65536));
+    line(b"write 1 thread", made(1, 0, &mut file, 65536));
+    line(b"read 1 thread", status(&file, 56));
+    set(&mut file, 4, 0);
+    set(&mut file, 16, 32);
+    set(&mut file, 20, 32);
+    line(b"read 0 threads", status(&file, 32));
+}
+
+fn many_threads() {
+    let mut file = io::large_buffer();
+    line(b"write 33 threads", made(33, 0, &mut file, 65536));
+    line(b"write 32 threads", made(32, 0, &mut file, 65536));
+    line(b"read 32 threads", status(&file, 800));
+    set(&mut file, 4, 33);
+    set(&mut file, 16, 56);
+    set(&mut file, 20, 56);
+    line(b"read 33 threads", status(&file, 824));
+}
+
+// E at and past its limit, written and read: 1,500 is 0x5dc, and the total goes from 60,800 to 60,840, 0xeda8.
+fn counts() {
+    let mut file = io::large_buffer();
+    line(b"write 1501 events", made(32, 1501, &mut file, 65536));
+    line(b"write 1500 events", made(32, 1500, &mut file, 65536));
+    line(b"read 1500 events", status(&file, 60800));
+    set(&mut file, 8, 221);
+    set(&mut file, 20, 168);
+    line(b"read 1501 events", status(&file, 60840));
+}
+
+// A buffer one byte short, whose bytes are all kept, and one that is just long enough.
+fn rooms() {
+    let mut file = io::large_buffer();
+    line(b"room for 199 of 200 bytes", made(2, 3, &mut file, 199));
     let cleared = io::large_buffer();
     if check::same(&file, &cleared) {
         io::write_all(STDOUT_FILENO, b"unchanged\n");
     }
+    line(b"room for 200", made(2, 3, &mut file, 200));
+    line(b"as written", status(&file, 200));
 }
 
-fn word(x: u64) -> u32 {
-    (x % 4294967296) as u32
-}
-
-fn byte(x: u64) -> u8 {
-    (x % 256) as u8
-}
-
-// Does what a line says, on the file that was made last.
-fn step(line: &[u8], op: u8, file: &mut [u8]) {
-    let most = [1000000u64; 3];
-    let x = text_numbers::numbers_at(line, 2, &most);
-    let first = x.values[0];
-    let second = x.values[1];
-    let third = x.values[2];
-    match op {
-        b'w' => status_line(made(word(first), second as usize, file, third as usize)),
-        b'k' => untouched(word(first), second as usize, third as usize),
-        b'r' => status_line(status(file, first as usize)),
-        b's' => set(file, first as usize, byte(second)),
-        b'd' => damaged(file, first as usize, second as usize, byte(third)),
-        _ => {}
-    }
-}
-
-// A name is written as it stands; any other line is done.
-fn cases(text: &[u8]) {
+// Where several refusals hold, the first of their order is given.
+fn order() {
     let mut file = io::large_buffer();
-    let mut at: usize = 0;
-    while at < text.len() {
-        let from = at;
-        let op = text[from];
-        let end = text_lines::line_end(text, from);
-        if end < from + 2 {
-            return;
-        }
-        if text.len() < end {
-            return;
-        }
-        at = end;
-        if op == b':' {
-            io::write_all(STDOUT_FILENO, &text[from + 1..end - 1]);
-        } else {
-            step(&text[from..end], op, &mut file);
-        }
-    }
+    line(
+        b"0 threads, 1501 events, no room",
+        made(0, 1501, &mut file, 0),
+    );
+    line(
+        b"2 threads, 1501 events, no room",
+        made(2, 1501, &mut file, 0),
+    );
+    line(b"2 threads, 3 events, no room", made(2, 3, &mut file, 0));
 }
 
 fn main() {
-    let mut text = io::large_buffer();
-    let n = io::read_full(libc::STDIN_FILENO, &mut text);
-    cases(&text[..n]);
+    lengths();
+    headers();
+    fillers();
+    few_threads();
+    many_threads();
+    counts();
+    rooms();
+    order();
 }
