@@ -4,7 +4,8 @@
 #![tactic(auto)]
 
 use bound_listing::LARGEST;
-use libc::{STDERR_FILENO, STDOUT_FILENO};
+use command::STDERR_FILENO;
+use std::env::Env;
 
 // The largest number of 64 bits.
 const MOST: u64 = 18446744073709551615;
@@ -44,29 +45,27 @@ fn length_of(text: &mut [u8], n: usize) -> Length {
 }
 
 // The number that argument i is, in decimal and without leading zeros.
-fn length_given(i: usize) -> Length {
+fn length_given(rt: &impl Env, i: usize) -> Length {
     let mut text = io::buffer();
-    let n = os::arg(i, &mut text);
-    if os::errno() != 0 {
-        return no_length();
+    match rt.arg(i, &mut text) {
+        Ok(n) => length_of(&mut text, n),
+        Err(_) => no_length(),
     }
-    length_of(&mut text, n)
 }
 
 // Writes the lines of a file.
-fn list(file: &[u8], ticks: u64) -> u8 {
+fn list(rt: &impl Print, file: &[u8], ticks: u64) -> u8 {
     let mut out = [0u8; LARGEST];
     let length = bound_listing::bound_listing(file, ticks, &mut out);
-    if !io::write_all(STDOUT_FILENO, &out[..length]) {
-        os::fail(b"standard output");
+    if !command::write_all(rt, &out[..length]) {
         return command::FAILED;
     }
     replay_end::end_of(file)
 }
 
 // A trace has at most 60,800 bytes: of a longer file the first 65,536 are refused as the whole of it is.
-fn main() {
-    let given = length_given(2);
+fn main(rt: HostRuntime) {
+    let given = length_given(&rt, 2);
     if !given.right {
         io::write_all(
             STDERR_FILENO,
@@ -77,11 +76,11 @@ fn main() {
         return;
     }
     let mut file = io::large_buffer();
-    let input = command::read_input(1, &mut file);
+    let input = command::read_input(&rt, 1, &mut file);
     if !input.whole {
         command::end(command::FAILED);
         return;
     }
     let length = input.length;
-    command::end(list(&file[..length], given.ticks));
+    command::end(list(&rt, &file[..length], given.ticks));
 }

@@ -1,7 +1,7 @@
 // A line of a text as a person sees it, on the standard error.
 ghost use Rattle.std.specs.Prelude.{◌≤◌, length};
 
-use libc::STDERR_FILENO;
+use command::STDERR_FILENO;
 
 // Bytes shown of a line. A line of ours has at most 56, so that what differs is among them.
 const SHOWN: usize = 200;

@@ -7,7 +7,6 @@ ghost use Rattle.listing_check.specs.Verdict.{verdict_of, checked_of};
 
 mod lines; // lines.rt: a line as a person sees it
 
-use libc::STDOUT_FILENO;
 use listing_check::Verdict;
 
 fn wide(n: usize) -> u64 {
@@ -15,22 +14,24 @@ fn wide(n: usize) -> u64 {
 }
 
 // A word and a number as a line of the standard output.
-fn say(word: &[u8], n: u64) -> bool {
-    if !io::write_all(STDOUT_FILENO, word) {
+fn say(rt: &impl Print, word: &[u8], n: u64) -> bool {
+    if !command::write_all(rt, word) {
         return false;
     }
-    if !io::print_decimal(STDOUT_FILENO, n) {
+    let mut digits = [0u8; 20];
+    let length = io::decimal(n, &mut digits);
+    if !command::write_all(rt, &digits[..length]) {
         return false;
     }
-    io::write_all(STDOUT_FILENO, b"\n")
+    command::write_all(rt, b"\n")
 }
 
 // The verdict as a line of the standard output.
-fn say_verdict(v: Verdict) -> bool {
+fn say_verdict(rt: &impl Print, v: Verdict) -> bool {
     match v {
-        Verdict::Same => io::write_all(STDOUT_FILENO, b"yes\n"),
-        Verdict::Differs(line) => say(b"line ", wide(line)),
-        Verdict::Refused(status) => say(b"refused ", status as u64),
+        Verdict::Same => command::write_all(rt, b"yes\n"),
+        Verdict::Differs(line) => say(rt, b"line ", wide(line)),
+        Verdict::Refused(status) => say(rt, b"refused ", status as u64),
     }
 }
 
@@ -45,12 +46,11 @@ fn show_both(file: &[u8], theirs: &[u8], line: usize) {
 
 // Gives the verdict, and answers how the program ended: with the verdict's number, so that 0 is yes, 1 a line and 2 a refusal; or with
 // 2, where it can't be written.
-fn judge(file: &[u8], theirs: &[u8]) -> u8
+fn judge(rt: &impl Print, file: &[u8], theirs: &[u8]) -> u8
     ensures { (result ≡ 2 → ⊥) → result ≡ (checked_of (verdict_of file.now theirs.now)).verdict }
 {
     let v = listing_verdict::verdict_of(file, theirs);
-    if !say_verdict(v) {
-        os::fail(b"standard output");
+    if !say_verdict(rt, v) {
         return command::FAILED;
     }
     let checked = listing_check::checked_of(v);
@@ -62,20 +62,20 @@ fn judge(file: &[u8], theirs: &[u8]) -> u8
 
 // A trace has at most 60,800 bytes and its listing at most 54,000: of a longer file the first 65,536 have the verdict that all of it
 // has (`LongIsRefused`, `StartDecides`).
-fn main() {
+fn main(rt: HostRuntime) {
     let mut file = io::large_buffer();
-    let trace = command::read_input(1, &mut file);
+    let trace = command::read_input(&rt, 1, &mut file);
     if !trace.whole {
         command::end(command::FAILED);
         return;
     }
     let mut theirs = io::large_buffer();
-    let other = command::read_input(2, &mut theirs);
+    let other = command::read_input(&rt, 2, &mut theirs);
     if !other.whole {
         command::end(command::FAILED);
         return;
     }
     let length = trace.length;
     let other_length = other.length;
-    command::end(judge(&file[..length], &theirs[..other_length]));
+    command::end(judge(&rt, &file[..length], &theirs[..other_length]));
 }

@@ -1,10 +1,15 @@
 // What every program that `bin/thawonlai` starts does: it reads the inputs that its arguments name, and says how it ended. A program
-// has no exit status of its own, so it writes one to descriptor 3, and `bin/thawonlai` exits with it.
+// writes how it ended to descriptor 3, and `bin/thawonlai` exits with it.
 #![tactic(auto)]
 
+ghost use Rattle.std.specs.Prelude.{IfOk};
 ghost use Rattle.io.specs.Counts.{IsPrefixLen};
 
-use libc::{STDERR_FILENO, STDIN_FILENO};
+use std::env::{Env, FillError};
+use std::fs;
+use std::io::{Error, Read, Write};
+use std::rt::Files;
+use std::str::from_utf8;
 
 // The three ends of a command.
 pub const DONE: u8 = 0;
@@ -13,7 +18,17 @@ pub const REFUSED: u8 = 1;
 
 pub const FAILED: u8 = 2;
 
+// The standard error.
+pub const STDERR_FILENO: i32 = 2;
+
 const STATUS_FILENO: i32 = 3;
+
+// The system's numbers for an argument that is missing, for a name that is too long, and for one that is no text.
+const EINVAL: i32 = 22;
+
+const ENAMETOOLONG: i32 = 36;
+
+const EILSEQ: i32 = 84;
 
 // Whether an input was read without a failure, and how many bytes of it.
 #[derive(Clone, Copy)]
@@ -22,44 +37,68 @@ pub struct Input {
     pub length: usize,
 }
 
+const UNREAD: Input = Input {
+    whole: false,
+    length: 0,
+};
+
+// How many bytes of an error's text are its own words: the system's errors end in ` (os error N)`.
+fn words(e: &Error, length: usize) -> usize {
+    match e.raw_os_error() {
+        Some(code) => {
+            let mut digits = [0u8; 20];
+            let suffix = 12 + io::decimal(u64::from(code.unsigned_abs()), &mut digits);
+            length.saturating_sub(suffix)
+        }
+        None => length,
+    }
+}
+
+// Writes a line to the standard error: what failed, a colon and why.
+pub fn fail(what: &[u8], e: &Error) {
+    let mut text = [0u8; 256];
+    let mut rest = &mut text[..];
+    let _ = write!(rest, "{e}");
+    let left = rest.len();
+    let told = words(e, text.len().saturating_sub(left));
+    let length = told.min(text.len());
+    io::write_all(STDERR_FILENO, what);
+    io::write_all(STDERR_FILENO, b": ");
+    io::write_all(STDERR_FILENO, &text[..length]);
+    io::write_all(STDERR_FILENO, b"\n");
+}
+
 // Reads an input to its end, or until the buffer is full. Each turn but the last reads at least one byte.
-fn read_all(fd: i32, buffer: &mut [u8]) -> Input
-    ensures { IsPrefixLen result.length buffer.new }
+fn read_all<R: Read>(input: &mut R, buffer: &mut [u8]) -> Result<usize, Error>
+    ensures { IfOk result (λ n. IsPrefixLen n buffer.new) }
 {
     let mut length = 0;
     let mut turns = buffer.len();
     while 0 < turns {
         turns -= 1;
-        let got = libc::read(fd, &mut buffer[length..]);
-        if got < 0 {
-            return Input {
-                whole: false,
-                length: 0,
-            };
-        }
+        let got = input.read(&mut buffer[length..])?;
         if got == 0 {
-            return Input {
-                whole: true,
-                length,
-            };
+            return Ok(length);
         }
-        length += io::count(got, &buffer[length..]);
+        length += got;
     }
-    Input {
-        whole: true,
-        length,
-    }
+    Ok(length)
 }
 
 // The same, and a failure is named on the standard error.
-fn read_named(fd: i32, name: &[u8], buffer: &mut [u8]) -> Input
+fn read_named<R: Read>(input: &mut R, name: &[u8], buffer: &mut [u8]) -> Input
     ensures { IsPrefixLen result.length buffer.new }
 {
-    let read = read_all(fd, buffer);
-    if !read.whole {
-        os::fail(name);
+    match read_all(input, buffer) {
+        Ok(length) => Input {
+            whole: true,
+            length,
+        },
+        Err(e) => {
+            fail(name, &e);
+            UNREAD
+        }
     }
-    read
 }
 
 // Whether a name is `-`, which stands for the standard input.
@@ -70,41 +109,64 @@ fn is_dash(name: &[u8]) -> bool {
     name[0] == b'-'
 }
 
+// The file of this name.
+fn open<R: Files>(rt: &R, name: &[u8]) -> Result<R::File, Error> {
+    match from_utf8(name) {
+        Ok(path) => fs::open(rt, path),
+        Err(_) => Err(Error::from_raw_os_error(EILSEQ)),
+    }
+}
+
 // The file of this name, to its end or until the buffer is full.
-fn read_file(name: &[u8], buffer: &mut [u8]) -> Input
+fn read_file(rt: &impl Files, name: &[u8], buffer: &mut [u8]) -> Input
     ensures { IsPrefixLen result.length buffer.new }
 {
-    let fd = os::open_read(name);
-    if fd < 0 {
-        os::fail(name);
-        return Input {
-            whole: false,
-            length: 0,
-        };
+    match open(rt, name) {
+        Ok(mut file) => read_named(&mut file, name, buffer),
+        Err(e) => {
+            fail(name, &e);
+            UNREAD
+        }
     }
-    let read = read_named(fd, name, buffer);
-    libc::close(fd);
-    read
+}
+
+// Why an argument could not be had.
+pub fn argument_error(e: FillError) -> Error {
+    match e {
+        FillError::NotPresent => Error::from_raw_os_error(EINVAL),
+        FillError::TooLong => Error::from_raw_os_error(ENAMETOOLONG),
+    }
 }
 
 // Reads the input that argument i names, to its end or until the buffer is full: a file, or the standard input where it is `-`. What
 // can't be opened or read is named on the standard error.
-pub fn read_input(i: usize, buffer: &mut [u8]) -> Input
+pub fn read_input(rt: &(impl Env + Files + std::io::Input), i: usize, buffer: &mut [u8]) -> Input
     ensures { IsPrefixLen result.length buffer.new }
 {
     let mut name = io::buffer();
-    let length = os::arg(i, &mut name);
-    if os::errno() != 0 {
-        os::fail(b"argument");
-        return Input {
-            whole: false,
-            length: 0,
-        };
+    match rt.arg(i, &mut name) {
+        Ok(length) => {
+            if is_dash(&name[..length]) {
+                return read_named(&mut rt.reader(), b"standard input", buffer);
+            }
+            read_file(rt, &name[..length], buffer)
+        }
+        Err(e) => {
+            fail(b"argument", &argument_error(e));
+            UNREAD
+        }
     }
-    if is_dash(&name[..length]) {
-        return read_named(STDIN_FILENO, b"standard input", buffer);
+}
+
+// Writes all of some bytes to the standard output. That it failed is said on the standard error.
+pub fn write_all(rt: &impl Print, bytes: &[u8]) -> bool {
+    match rt.write_all(bytes) {
+        Ok(()) => true,
+        Err(e) => {
+            fail(b"standard output", &e);
+            false
+        }
     }
-    read_file(&name[..length], buffer)
 }
 
 // Says how the program ended. Where descriptor 3 is closed, nobody asked.

@@ -12,42 +12,37 @@ ghost use Rattle.counts_text.specs.Room.{room};
 ghost use Rattle.counts_steps.specs.CountSteps.{sums_from};
 
 use counts_text::ROOM;
-use libc::STDOUT_FILENO;
 use reports::NUMBERS;
 use rows::{SLOTS, Slots};
 use state::Core;
 use trace_records::EVENTS;
 
 // Writes the first bytes of a buffer; that it failed is said on the standard error.
-fn write(out: &[u8], n: usize) -> bool
+fn write(rt: &impl Print, out: &[u8], n: usize) -> bool
     requires { n ≤ length out.now }
 {
-    if io::write_all(STDOUT_FILENO, &out[..n]) {
-        return true;
-    }
-    os::fail(b"standard output");
-    false
+    command::write_all(rt, &out[..n])
 }
 
 // Writes the line of a refusal.
-fn refuse(out: &mut [u8], status: u8) -> u8
+fn refuse(rt: &impl Print, out: &mut [u8], status: u8) -> u8
     requires { room ≤ length out.old }
     ensures { (result ≡ 2 → ⊥) → result ≡ 1 }
 {
     let n = refusal_line::put_refusal(out, status);
-    if !write(out, n) {
+    if !write(rt, out, n) {
         return command::FAILED;
     }
     command::REFUSED
 }
 
 // Writes the sums of each of so many threads.
-fn write_sums(out: &mut [u8], threads: usize, sums: &[u64; NUMBERS]) -> u8
+fn write_sums(rt: &impl Print, out: &mut [u8], threads: usize, sums: &[u64; NUMBERS]) -> u8
     requires { (threads ≤ most_threads) × (room ≤ length out.old) }
     ensures { (result ≡ 2 → ⊥) → result ≡ 0 }
 {
     let n = counts_text::put_sums(out, threads, sums);
-    if !write(out, n) {
+    if !write(rt, out, n) {
         return command::FAILED;
     }
     command::DONE
@@ -62,6 +57,7 @@ struct Ended {
 
 // Writes the lines of each event from an offset on, and adds up what they tell.
 fn write_events(
+    rt: &impl Print,
     file: &[u8],
     opened: Core,
     dues: &mut Slots,
@@ -88,7 +84,7 @@ fn write_events(
                 core,
             };
         }
-        if !write(out, step.length) {
+        if !write(rt, out, step.length) {
             return Ended {
                 written: false,
                 core,
@@ -105,7 +101,7 @@ fn write_events(
 }
 
 // Writes what happened at the events of a file, or the line of its refusal.
-fn count(file: &[u8]) -> u8
+fn count(rt: &impl Print, file: &[u8]) -> u8
     ensures { (result ≡ 2 → ⊥) → result ≡ cond (eqb (begun_of file.now).status 0) 0 1 }
 {
     let mut out = [0u8; ROOM];
@@ -114,12 +110,13 @@ fn count(file: &[u8]) -> u8
     let begun = replay_begin::begin(file, &mut dues, &mut amounts);
     let status = begun.status;
     if status != 0 {
-        return refuse(&mut out, status);
+        return refuse(rt, &mut out, status);
     }
     let a = begun.answer;
     let opened = a.core;
     let mut sums = [0u64; NUMBERS];
     let ended = write_events(
+        rt,
         file,
         opened,
         &mut dues,
@@ -132,17 +129,17 @@ fn count(file: &[u8]) -> u8
         return command::FAILED;
     }
     let last = ended.core;
-    write_sums(&mut out, last.header.n as usize, &sums)
+    write_sums(rt, &mut out, last.header.n as usize, &sums)
 }
 
 // A trace has at most 60,800 bytes: of a longer file the first 65,536 are refused as the whole of it is.
-fn main() {
+fn main(rt: HostRuntime) {
     let mut file = io::large_buffer();
-    let input = command::read_input(1, &mut file);
+    let input = command::read_input(&rt, 1, &mut file);
     if !input.whole {
         command::end(command::FAILED);
         return;
     }
     let length = input.length;
-    command::end(count(&file[..length]));
+    command::end(count(&rt, &file[..length]));
 }

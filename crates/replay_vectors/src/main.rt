@@ -5,8 +5,10 @@
 
 ghost use Rattle.io.specs.Counts.{IsPrefixLen};
 
-const STDOUT_FILENO: i32 = 1;
+use std::env::{Env, FillError};
+use std::rt::Files;
 
+const STDOUT_FILENO: i32 = 1;
 
 fn wide(b: u8) -> u64 {
     b as u64
@@ -19,26 +21,19 @@ fn line(label: &[u8], number: u64) {
     io::write_all(STDOUT_FILENO, b"\n");
 }
 
-// The whole of a file that fits the buffer; a file that can't be opened is named on the error output.
-fn stored(name: &[u8], file: &mut [u8]) -> usize
+// The whole of the file that argument i names, where it fits the buffer; a file that can't be opened is named on the error output.
+fn stored(rt: &(impl Env + Files + Input), i: usize, file: &mut [u8]) -> usize
     ensures { IsPrefixLen result file.new }
 {
-    let fd = os::open_read(name);
-    if fd < 0 {
-        os::fail(name);
-        return 0;
-    }
-    let n = io::read_full(fd, file);
-    libc::close(fd);
-    n
+    command::read_input(rt, i, file).length
 }
 
 // Reads a file and writes what was read into a cleared buffer, which is compared whole: with the file where it is accepted, and with
 // the cleared buffer where it is refused.
-fn rewritten(name: &[u8]) {
+fn rewritten(rt: &(impl Env + Files + Input), i: usize, name: &[u8]) {
     let mut file = io::large_buffer();
     let mut out = io::large_buffer();
-    let n = stored(name, &mut file);
+    let n = stored(rt, i, &mut file);
     let w = trace_copy::copy(&file[..n], &mut out);
     line(name, wide(w.status));
     let cleared = io::large_buffer();
@@ -54,31 +49,33 @@ fn rewritten(name: &[u8]) {
 }
 
 // The listing of a file.
-fn listed(name: &[u8]) {
+fn listed(rt: &(impl Env + Files + Input), i: usize) {
     let mut file = io::large_buffer();
     let mut out = io::large_buffer();
-    let n = stored(name, &mut file);
+    let n = stored(rt, i, &mut file);
     let r = listing::listing(&file[..n], &mut out);
     let length = r.length;
     io::write_all(STDOUT_FILENO, &out[..length]);
 }
 
-fn argument(i: usize) {
+// Runs the file that argument i names, and answers whether there is such an argument.
+fn argument(rt: &(impl Env + Files + Input), i: usize) -> bool {
     let mut name = [0u8; 64];
-    let n = os::arg(i, &mut name);
-    if os::errno() != 0 {
-        os::fail(b"argument");
-        return;
+    match rt.arg(i, &mut name) {
+        Ok(n) => {
+            rewritten(rt, i, &name[..n]);
+            listed(rt, i);
+        }
+        Err(FillError::NotPresent) => return false,
+        Err(e) => command::fail(b"argument", &command::argument_error(e)),
     }
-    rewritten(&name[..n]);
-    listed(&name[..n]);
+    true
 }
 
-fn main() {
-    let n = os::arg_count();
-    let mut i = 1;
-    while i < n {
-        argument(i);
-        i += 1;
+fn main(rt: HostRuntime) {
+    for i in 1..usize::MAX {
+        if !argument(&rt, i) {
+            return;
+        }
     }
 }

@@ -2,13 +2,11 @@
 // written. A refusal goes to the standard error.
 #![tactic(auto)]
 
-use libc::STDOUT_FILENO;
-
 // The longest text of a file: the start line's 27 bytes, 76 for each of 32 threads and 87 for each of 1,500 events.
 const LONGEST: usize = 132959;
 
 // Writes the text of a file.
-fn turn(file: &[u8]) -> u8 {
+fn turn(rt: &impl Print, file: &[u8]) -> u8 {
     let mut out = [0u8; LONGEST];
     let made = trace_telling::to_text(file, &mut out);
     if made.status != 0 {
@@ -16,21 +14,20 @@ fn turn(file: &[u8]) -> u8 {
         return command::REFUSED;
     }
     let total = made.total;
-    if !io::write_all(STDOUT_FILENO, &out[..total]) {
-        os::fail(b"standard output");
+    if !command::write_all(rt, &out[..total]) {
         return command::FAILED;
     }
     command::DONE
 }
 
 // A trace has at most 60,800 bytes: of a longer file the first 65,536 are refused as the whole of it is.
-fn main() {
+fn main(rt: HostRuntime) {
     let mut file = io::large_buffer();
-    let input = command::read_input(1, &mut file);
+    let input = command::read_input(&rt, 1, &mut file);
     if !input.whole {
         command::end(command::FAILED);
         return;
     }
     let length = input.length;
-    command::end(turn(&file[..length]));
+    command::end(turn(&rt, &file[..length]));
 }

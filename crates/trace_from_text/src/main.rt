@@ -4,7 +4,7 @@
 
 ghost use Rattle.std.specs.Prelude.{◌≤◌, length};
 
-use libc::{STDERR_FILENO, STDOUT_FILENO};
+use command::STDERR_FILENO;
 use text_lines::line_end;
 
 // The longest text that is read.
@@ -43,7 +43,7 @@ fn show_line(text: &[u8], number: usize) {
 }
 
 // Writes the trace file of a text. It has at most 60,800 bytes.
-fn turn(text: &[u8]) -> u8 {
+fn turn(rt: &impl Print, text: &[u8]) -> u8 {
     if LONGEST < text.len() {
         io::write_all(STDERR_FILENO, b"a text has at most 1000000 bytes\n");
         return command::FAILED;
@@ -56,8 +56,7 @@ fn turn(text: &[u8]) -> u8 {
         return command::REFUSED;
     }
     let total = made.total;
-    if !io::write_all(STDOUT_FILENO, &out[..total]) {
-        os::fail(b"standard output");
+    if !command::write_all(rt, &out[..total]) {
         return command::FAILED;
     }
     command::DONE
@@ -67,13 +66,13 @@ fn room() -> [u8; ROOM] {
     [0u8; ROOM]
 }
 
-fn main() {
+fn main(rt: HostRuntime) {
     let mut text = room();
-    let input = command::read_input(1, &mut text);
+    let input = command::read_input(&rt, 1, &mut text);
     if !input.whole {
         command::end(command::FAILED);
         return;
     }
     let length = input.length;
-    command::end(turn(&text[..length]));
+    command::end(turn(&rt, &text[..length]));
 }
