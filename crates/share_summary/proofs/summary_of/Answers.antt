@@ -27,7 +27,7 @@ pub returns-then-elapsed-eq0 : goal.returns-then-elapsed-eq0
 returns-then-elapsed-eq0 c =
     sym (summary-none (whole c.args.c c.args.dues.now c.args.amounts.now) (sym c.sound.ensures ∙ c.if-not-sound.false) c.if-elapsed-eq0.true)
 
-pub leading-l-requires : goac.leading-l-requires
+pub leading-l-requires : goal.leading-l-requires
 leading-l-requires c = omega (arith, (times (whole c.args.c c.args.dues.now c.args.amounts.now) 0 (sym c.sound.ensures ∙ c.if-not-sound.false)).few)
 
 pub quotient-requires : goal.quotient-requires
