@@ -7,7 +7,7 @@ use mathlib.Core.List.{List, [], ◌∷◌}
 use lib.ListN.{length, take, drop, length-take, length-drop}
 use lib.Seq.{take_all}
 use native.Mathlib.Omega.{arith}
-use borrow.Author.Tests.{eq-eqb, not-true, not-false}
+use borrow.Author.Tests.{eq-eqb}
 use Rattle.base.specs.Tests.{all, zeros}
 use Rattle.base.proofs.TestLaws.{tests, all-false, all_true, false-true, cond-elim}
 use Rattle.records.specs.declared.Parameters.{Parameters}
@@ -15,7 +15,6 @@ use Rattle.account.specs.declared.Account.{Account}
 use Rattle.account.specs.Account.{pending_dues, pending_amounts}
 use Rattle.account.specs.Sound.{runs_upper, last_due, number_tests, amount_tests, due_tests, slot_tests, sound_tests, sound_at}
 use Rattle.account_lent.specs.Lent.{account_of}
-use Rattle.account_lent.proofs.sound_lent.Lts as lts
 use Rattle.account_lent.proofs.sound_lent.Goals as goal
 
 -- what each part was given is what the definition says
@@ -63,30 +62,19 @@ last-two : (t u v w x : Bool) → t ≡ true → u ≡ true → v ≡ true → a
 unfolding all
 last-two t u v w x a b c = sym (simp (a, b, c))
 
--- the account that is judged
-abbrev given : lts.Start → Account
-given a = account_of a.args.s a.args.count a.args.dues.now a.args.amounts.now
-
 -- ---- the first part: the numbers hold, and so the entries in use lie in the slots
 
+record Numbers (start now : ℕ) (blocked : Bool) (p : Parameters) (a : Account) (n : ℕ) : Type 0 where
+  first : all (number_tests start now (runs_upper blocked p a) p a.server a.pending.count) ≡ true
+  few : n ≤ 8
 
-record Numbers (c : lts.After-wide) : Type 0 where
-  first : all (number_tests c.args.start c.args.time
-      (runs_upper c.args.blocked c.args.p
-      (given c)) c.args.p
-      c.args.s c.args.count) ≡ true
-  few : c.wide-n.result ≤ 8
-
-numbered : (c : lts.After-wide) → Numbers c
-numbered c =
-    let i = c in
-    let u = i in
-    let st = u in
-    let a = st.args in
-    let e = sym (numbers a.start a.time a.blocked a.p (given st) _ u.runs_upper-up.ensures _ i.numbers_hold.ensures)
-    ∙ not-false _ i.if-not-numbers_hold.false in
-    let h = all_true (number_tests a.start a.time (runs_upper a.blocked a.p (given st)) a.p a.s a.count) e in
-    record { first = e; few = omega (tests, h, c.wide-n.ensures) }
+numbered : (start now : ℕ) (blocked : Bool) (p : Parameters) (a : Account) (up r : Bool) (n : ℕ)
+    → up ≡ runs_upper blocked p a → r ≡ all (number_tests start now up p a.server a.pending.count) → r ≡ true
+    → n ≡ a.pending.count → Numbers start now blocked p a n
+numbered start now blocked p a up r n eu en h w =
+    let e = sym (numbers start now blocked p a up eu r en) ∙ h in
+    let k = all_true (number_tests start now (runs_upper blocked p a) p a.server a.pending.count) e in
+    record { first = e; few = omega (tests, k) }
 
 pub returns-then-not-numbers_hold : goal.returns-then-not-numbers_hold
 unfolding sound_at
@@ -95,27 +83,27 @@ returns-then-not-numbers_hold c =
     let st = u in
     let a = st.args in
     sym
-    (all-false (sound_tests a.start a.time a.blocked a.p (given st)) 0
-    (sym (numbers a.start a.time a.blocked a.p (given st) _ u.runs_upper-up.ensures _ c.numbers_hold.ensures) ∙ not-true _ c.if-not-numbers_hold.true))
+    (all-false (sound_tests a.start a.time a.blocked a.p (account_of a.s a.count a.dues.now a.amounts.now)) 0
+    (sym (numbers a.start a.time a.blocked a.p (account_of a.s a.count a.dues.now a.amounts.now) _ u.runs_upper-up.ensures _ c.numbers_hold.ensures) ∙ c.if-not-numbers_hold.true))
 
 pub slice_bounds-entries_hold-end : goal.slice_bounds-entries_hold-end
 slice_bounds-entries_hold-end c =
     let w = c in
     let a = w.args in
-    omega (arith, length-take w.wide-n.result a.amounts.now, (numbered w).few)
+    omega (arith, length-take w.wide-n.result a.amounts.now, (numbered a.start a.time a.blocked a.p (account_of a.s a.count a.dues.now a.amounts.now) _ _ _ c.runs_upper-up.ensures c.numbers_hold.ensures c.if-not-numbers_hold.false c.wide-n.ensures).few)
 
 pub slice_bounds-entries_hold-end-2 : goal.slice_bounds-entries_hold-end-2
 slice_bounds-entries_hold-end-2 c =
     let w = c in
     let a = w.args in
-    omega (arith, length-take w.wide-n.result a.dues.now, (numbered w).few)
+    omega (arith, length-take w.wide-n.result a.dues.now, (numbered a.start a.time a.blocked a.p (account_of a.s a.count a.dues.now a.amounts.now) _ _ _ c.runs_upper-up.ensures c.numbers_hold.ensures c.if-not-numbers_hold.false c.wide-n.ensures).few)
 
 pub entries_hold-requires : goal.entries_hold-requires
 entries_hold-requires c =
     let w = c in
     let a = w.args in
     let n = w.wide-n.result in
-    omega (arith, length-take n a.amounts.now, length-take n a.dues.now, (numbered w).few)
+    omega (arith, length-take n a.amounts.now, length-take n a.dues.now, (numbered a.start a.time a.blocked a.p (account_of a.s a.count a.dues.now a.amounts.now) _ _ _ c.runs_upper-up.ensures c.numbers_hold.ensures c.if-not-numbers_hold.false c.wide-n.ensures).few)
 
 pub returns-then-not-entries_hold : goal.returns-then-not-entries_hold
 unfolding sound_at
@@ -125,20 +113,28 @@ returns-then-not-entries_hold c =
     let st = u in
     let a = st.args in
     sym
-    (entries-fail a.start a.time a.blocked a.p (given st)
-    (sym (entries a.start a.time a.blocked a.p (given st) _ u.runs_upper-up.ensures _ w.wide-n.ensures _ c.entries_hold.ensures) ∙ not-true _ c.if-not-entries_hold.true))
+    (entries-fail a.start a.time a.blocked a.p (account_of a.s a.count a.dues.now a.amounts.now)
+    (sym (entries a.start a.time a.blocked a.p (account_of a.s a.count a.dues.now a.amounts.now) _ u.runs_upper-up.ensures _ w.wide-n.ensures _ c.entries_hold.ensures) ∙ c.if-not-entries_hold.true))
 
 pub slice_bounds-clear-count : goal.slice_bounds-clear-count
-slice_bounds-clear-count c = omega (arith, (numbered c).few)
+slice_bounds-clear-count c =
+    let a = c.args in
+    omega (arith, (numbered a.start a.time a.blocked a.p (account_of a.s a.count a.dues.now a.amounts.now) _ _ _ c.runs_upper-up.ensures c.numbers_hold.ensures c.if-not-numbers_hold.false c.wide-n.ensures).few)
 
 pub slice_bounds-clear-start : goal.slice_bounds-clear-start
-slice_bounds-clear-start c = omega (arith, (numbered c).few)
+slice_bounds-clear-start c =
+    let a = c.args in
+    omega (arith, (numbered a.start a.time a.blocked a.p (account_of a.s a.count a.dues.now a.amounts.now) _ _ _ c.runs_upper-up.ensures c.numbers_hold.ensures c.if-not-numbers_hold.false c.wide-n.ensures).few)
 
 pub slice_bounds-clear-count-2 : goal.slice_bounds-clear-count-2
-slice_bounds-clear-count-2 c = omega (arith, (numbered c).few)
+slice_bounds-clear-count-2 c =
+    let a = c.args in
+    omega (arith, (numbered a.start a.time a.blocked a.p (account_of a.s a.count a.dues.now a.amounts.now) _ _ _ c.runs_upper-up.ensures c.numbers_hold.ensures c.if-not-numbers_hold.false c.wide-n.ensures).few)
 
 pub slice_bounds-clear-start-2 : goal.slice_bounds-clear-start-2
-slice_bounds-clear-start-2 c = omega (arith, (numbered c).few)
+slice_bounds-clear-start-2 c =
+    let a = c.args in
+    omega (arith, (numbered a.start a.time a.blocked a.p (account_of a.s a.count a.dues.now a.amounts.now) _ _ _ c.runs_upper-up.ensures c.numbers_hold.ensures c.if-not-numbers_hold.false c.wide-n.ensures).few)
 
 pub returns : goal.returns
 unfolding sound_at
@@ -149,7 +145,7 @@ returns c =
     let st = u in
     let a = st.args in
     let h = all_true _
-    (sym (entries a.start a.time a.blocked a.p (given st) _ u.runs_upper-up.ensures _ w.wide-n.ensures _ i.entries_hold.ensures) ∙ not-false _ i.if-not-entries_hold.false) in
+    (sym (entries a.start a.time a.blocked a.p (account_of a.s a.count a.dues.now a.amounts.now) _ u.runs_upper-up.ensures _ w.wide-n.ensures _ i.entries_hold.ensures) ∙ i.if-not-entries_hold.false) in
     c.clear.ensures
     ∙ ap₂ (λ (x y : Bool). all (x ∷ y ∷ [])) (long _ _ a.dues.now w.wide-n.ensures (omega arith)) (long _ _ a.amounts.now w.wide-n.ensures (omega arith))
-    ∙ last-two _ _ _ _ _ (numbered w).first h.0 h.1.0
+    ∙ last-two _ _ _ _ _ (numbered a.start a.time a.blocked a.p (account_of a.s a.count a.dues.now a.amounts.now) _ _ _ c.runs_upper-up.ensures c.numbers_hold.ensures c.if-not-numbers_hold.false c.wide-n.ensures).first h.0 h.1.0

@@ -14,4 +14,4 @@ pub returns : goal.returns
 returns c =
     let s = c.split-l in
     let x = c.args.x in
-    (c.spelt.ensures.0 ∙ decimals-same unit (den x) (omega arith) (den_pos x) (joined s.result) (num x) s.ensures.value, c.spelt.ensures.1)
+    record { value = c.spelt.ensures.value ∙ decimals-same unit (den x) (omega arith) (den_pos x) (joined s.result) (num x) s.ensures.value; within = c.spelt.ensures.within }

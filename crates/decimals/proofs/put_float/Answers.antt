@@ -17,8 +17,8 @@ pub returns-then-x-eq0 : goal.returns-then-x-eq0
 returns-then-x-eq0 c =
     let n = c in
     let s = n in
-    let e = no_bits s.args.x s.well-formed.1.1.0.1 n.if-x-eq0.true in
-    (rw (none-text s.args.x e) n.put_number.ensures, omega (arith, n.put_number.ensures.next, ap length (small 0 (omega arith))))
+    let e = no_bits s.args.x s.well_formed.1.1.0.1 n.if-x-eq0.true in
+    record { put = rw (none-text s.args.x e) n.put_number.ensures; upper_bound = omega (arith, n.put_number.ensures.next, ap length (small 0 (omega arith))) }
 
 pub decimals_of-d-requires : goal.decimals_of-d-requires
 decimals_of-d-requires c = some_bits c.args.x c.requires.0 c.if-x-eq0.false
@@ -26,7 +26,7 @@ decimals_of-d-requires c = some_bits c.args.x c.requires.0 c.if-x-eq0.false
 pub put_pointed-requires : goal.put_pointed-requires
 put_pointed-requires c =
     let d = c.decimals_of-d in
-    omega (arith, within-most d.result d.ensures.1, c.requires.1)
+    omega (arith, within-most d.result d.ensures.within, c.requires.1)
 
 pub returns : goal.returns
 returns c =
@@ -35,4 +35,4 @@ returns c =
     let i = p in
     let s = i in
     let u = some_bits s.args.x s.requires.0 i.if-x-eq0.false in
-    (rw (unit-text s.args.x d.result u d.ensures.0) p.put_pointed.ensures, omega (arith, p.put_pointed.ensures.next, within-most d.result d.ensures.1))
+    record { put = rw (unit-text s.args.x d.result u d.ensures.value) p.put_pointed.ensures; upper_bound = omega (arith, p.put_pointed.ensures.next, within-most d.result d.ensures.within) }

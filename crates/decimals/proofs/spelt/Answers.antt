@@ -37,8 +37,8 @@ returns c =
     let e = c in
     let w = e.loop-down in
     let l = e.args.l in
-    let z : l.high / limb * unit + (l.high % limb * limb + l.low) ≡ l.high * limb + l.low = omega arith in (
-      spelling-is _ w.digits w.high w.low w.places w.invariant (sym e.goes_on.ensures ∙ e.loop-down-test.false) _ c.rounded.ensures
-          ∙ ap (λ (n : ℕ). decimals_of n unit) z,
-      record { digits = rounded-most w.digits (compare ((w.high * limb + w.low) * 2) unit) c.rounded.result w.invariant.digits c.rounded.ensures; places = w.invariant.few },
-    )
+    let z : l.high / limb * unit + (l.high % limb * limb + l.low) ≡ l.high * limb + l.low = omega arith in record {
+      value = spelling-is _ w.digits w.high w.low w.places w.invariant (sym e.goes_on.ensures ∙ e.loop-down-test.false) _ c.rounded.ensures
+          ∙ ap (λ (n : ℕ). decimals_of n unit) z;
+      within = record { digits = rounded-most w.digits (compare ((w.high * limb + w.low) * 2) unit) c.rounded.result w.invariant.digits c.rounded.ensures; places = w.invariant.few };
+    }

@@ -10,7 +10,7 @@ use Rattle.base.specs.Tests.{all}
 use Rattle.base.proofs.TestLaws.{all-false, all_one}
 use Rattle.account.specs.Sound.{amount_tests, due_tests, last_due}
 use Rattle.entries_sound.proofs.ScanLaws.{amount-step, amount-none, amount-over, amount-held, amount-end, due-step, due-early, due-late}
-use Rattle.entries_sound.proofs.entries_hold.Invariants.{Held, range, within, sums, begun, times, left_less, module, amounts-fail, dues-fail, next, let, sums, times, ends, let, let, sym}
+use Rattle.entries_sound.proofs.entries_hold.Invariants.{Held, left_less, amounts-fail, dues-fail, next, ends}
 use Rattle.entries_sound.proofs.entries_hold.Goals as goal
 
 -- what is held and what is left of the budget

@@ -14,26 +14,26 @@ use Rattle.entries_sound.proofs.entries_hold.Given as goal
 
 -- from entry i on: what is left of the budget, and the last due
 pub record Held (budget own : ℕ) (amounts dues : List ℕ) (after hi left last i : ℕ) : Type 0 where
-  range : i ≤ length dues
-  within : left ≤ budget
-  sums : all (amount_tests budget (budget - left) (drop i amounts)) ≡ all (amount_tests budget own amounts)
-  begun : after ≤ last
-  times : all (due_tests (last + 1) hi (drop i dues)) ≡ all (due_tests (after + 1) hi dues)
+  pub range : i ≤ length dues
+  pub within : left ≤ budget
+  pub sums : all (amount_tests budget (budget - left) (drop i amounts)) ≡ all (amount_tests budget own amounts)
+  pub begun : after ≤ last
+  pub times : all (due_tests (last + 1) hi (drop i dues)) ≡ all (due_tests (after + 1) hi dues)
 
 pub left_less : (budget left x : ℕ) → left ≤ budget → x ≤ left → (left - x ≤ budget) × (budget - (left - x) ≡ budget - left + x)
 left_less budget left x h k = (omega arith, omega arith)
 
 module _ {budget own : ℕ} {amounts dues : List ℕ} {after hi left last i : ℕ} (h : Held budget own amounts dues after hi left last i) where
   -- one of the two fails from entry i on
-  amounts-fail : all (amount_tests budget (budget - left) (drop i amounts)) ≡ false
+  pub amounts-fail : all (amount_tests budget (budget - left) (drop i amounts)) ≡ false
       → false ≡ all (all (amount_tests budget own amounts) ∷ all (due_tests (after + 1) hi dues) ∷ [])
   amounts-fail e = sym (all-false _ 0 (sym h.sums ∙ e))
 
-  dues-fail : all (due_tests (last + 1) hi (drop i dues)) ≡ false → false ≡ all (all (amount_tests budget own amounts) ∷ all (due_tests (after + 1) hi dues) ∷ [])
+  pub dues-fail : all (due_tests (last + 1) hi (drop i dues)) ≡ false → false ≡ all (all (amount_tests budget own amounts) ∷ all (due_tests (after + 1) hi dues) ∷ [])
   dues-fail e = sym (all-false _ 1 (sym h.times ∙ e))
 
   -- one entry more
-  next : i < length amounts → i < length dues → 1 ≤ get_or amounts i 0 → get_or amounts i 0 ≤ left → last < get_or dues i 0 → get_or dues i 0 ≤ hi
+  pub next : i < length amounts → i < length dues → 1 ≤ get_or amounts i 0 → get_or amounts i 0 ≤ left → last < get_or dues i 0 → get_or dues i 0 ≤ hi
       → Held budget own amounts dues after hi (left - get_or amounts i 0) (get_or dues i 0 - 1) (i + 1)
   next m n x l d u =
       let e = left_less budget left (get_or amounts i 0) h.within l in
@@ -47,7 +47,7 @@ module _ {budget own : ℕ} {amounts dues : List ℕ} {after hi left last i : �
       }
 
   -- no entry is left
-  ends : length amounts ≤ i → length dues ≤ i → eqb left 0 ≡ all (all (amount_tests budget own amounts) ∷ all (due_tests (after + 1) hi dues) ∷ [])
+  pub ends : length amounts ≤ i → length dues ≤ i → eqb left 0 ≡ all (all (amount_tests budget own amounts) ∷ all (due_tests (after + 1) hi dues) ∷ [])
   unfolding all
   ends m n =
       let a : eqb left 0 ≡ all (amount_tests budget own amounts) =

@@ -5,20 +5,13 @@ use native.Mathlib.Omega.{arith}
 use lib.ListN.{drop, length-take, length-drop}
 use lib.Pow.{pow_pos}
 use borrow.Author.Rules.{rules}
-use borrow.Author.Tests.{not-true, not-false}
+use Rattle.ready.specs.Lists.{start}
+use Rattle.ready.specs.Word.{highest_of}
 use Rattle.ready_sound.proofs.PassLaws.{Passing, Next, pass-start, pass-next, pass-fails, pass-passes, last-fails, last-decides}
-use Rattle.ready_sound.proofs.sound_rows.Lts as lts
 use Rattle.ready_sound.proofs.sound_rows.Goals as goal
 
 pub loop-rest-init : goal.loop-rest-init
 loop-rest-init c = let a = c.args in pass-start a.word a.lists.now a.places _ (omega arith) (omega arith) (omega arith)
-
--- the list that is next
-upcoming : (c : lts.In-loop) → Next c.loop-rest.rest c.loop-rest.end
-upcoming c =
-    let b = c in
-    let a = b.args in
-    pass-next a.word a.lists.now a.places b.loop-rest.left b.loop-rest.rest b.loop-rest.end b.loop-rest.invariant (omega arith)
 
 -- where its row starts, and that the part is a row at least
 record Begins (p at end : ℕ) : Type 0 where
@@ -27,24 +20,22 @@ record Begins (p at end : ℕ) : Type 0 where
   row : at + 33 ≤ end
   within : end ≤ 1056
 
-begins : (c : lts.After-row_start) → Begins c.highest-p.result c.row_start-at.result c.loop-rest.end
-begins c =
-    let x = upcoming c in
-    let p : c.highest-p.result ≡ suc x.list = c.highest-p.ensures ∙ x.highest in
-    let at = c.row_start-at.ensures in
+begins : {rest : ℕ} (p at end : ℕ) → Next rest end → p ≡ highest_of rest → at ≡ start p → Begins p at end
+begins p at end x h e =
+    let k : p ≡ suc x.list = h ∙ x.highest in
     record { low = omega arith; high = omega (arith, x.range); row = omega (arith, x.ends); within = omega (arith, x.ends, x.range) }
 
 pub row_start-at-requires : goal.row_start-at-requires
-row_start-at-requires c = let x = upcoming c in (omega (arith, c.highest-p.ensures, x.highest), omega (arith, c.highest-p.ensures, x.highest, x.range))
+row_start-at-requires c = let x = pass-next c.args.word c.args.lists.now c.args.places c.loop-rest.left c.loop-rest.rest c.loop-rest.end c.loop-rest.invariant (omega arith) in (omega (arith, c.highest-p.ensures, x.highest), omega (arith, c.highest-p.ensures, x.highest, x.range))
 
 pub slice_bounds-strike_row-count : goal.slice_bounds-strike_row-count
-slice_bounds-strike_row-count c = omega (arith, (begins c).row)
+slice_bounds-strike_row-count c = let g = begins c.highest-p.result c.row_start-at.result c.loop-rest.end (pass-next c.args.word c.args.lists.now c.args.places c.loop-rest.left c.loop-rest.rest c.loop-rest.end c.loop-rest.invariant (omega arith)) c.highest-p.ensures c.row_start-at.ensures in omega (arith, g.row)
 
 pub slice_bounds-strike_row-start : goal.slice_bounds-strike_row-start
-slice_bounds-strike_row-start c = omega (arith, (begins c).row, (begins c).within)
+slice_bounds-strike_row-start c = let g = begins c.highest-p.result c.row_start-at.result c.loop-rest.end (pass-next c.args.word c.args.lists.now c.args.places c.loop-rest.left c.loop-rest.rest c.loop-rest.end c.loop-rest.invariant (omega arith)) c.highest-p.ensures c.row_start-at.ensures in omega (arith, g.row, g.within)
 
 pub slice_bounds-strike_row-end : goal.slice_bounds-strike_row-end
-slice_bounds-strike_row-end c = omega (arith, (begins c).row, (begins c).within)
+slice_bounds-strike_row-end c = let g = begins c.highest-p.result c.row_start-at.result c.loop-rest.end (pass-next c.args.word c.args.lists.now c.args.places c.loop-rest.left c.loop-rest.rest c.loop-rest.end c.loop-rest.invariant (omega arith)) c.highest-p.ensures c.row_start-at.ensures in omega (arith, g.row, g.within)
 
 pub strike_row-requires : goal.strike_row-requires
 strike_row-requires c =
@@ -52,7 +43,7 @@ strike_row-requires c =
     let b = r in
     let l = b.args.lists.now in
     let at = r.row_start-at.result in
-    let g = begins r in
+    let g = begins c.highest-p.result c.row_start-at.result c.loop-rest.end (pass-next c.args.word c.args.lists.now c.args.places c.loop-rest.left c.loop-rest.rest c.loop-rest.end c.loop-rest.invariant (omega arith)) c.highest-p.ensures c.row_start-at.ensures in
     (g.low, omega (arith, g.row, g.within, length-take (b.loop-rest.end - at) (drop at l), length-drop at l), b.loop-rest.invariant.array)
 
 pub returns-then-not-strike_row : goal.returns-then-not-strike_row
@@ -62,16 +53,16 @@ returns-then-not-strike_row c =
     let b = r in
     let a = b.args in
     pass-fails a.word a.lists.now a.places b.loop-rest.left b.loop-rest.rest b.loop-rest.end r.highest-p.result r.row_start-at.result
-    (omega arith) b.loop-rest.invariant (upcoming r) r.highest-p.ensures r.row_start-at.ensures refl d.strike_row.ensures
-    (not-true _ c.if-not-strike_row.true)
+    (omega arith) b.loop-rest.invariant (pass-next c.args.word c.args.lists.now c.args.places c.loop-rest.left c.loop-rest.rest c.loop-rest.end c.loop-rest.invariant (omega arith)) r.highest-p.ensures r.row_start-at.ensures refl d.strike_row.ensures
+    (c.if-not-strike_row.true)
 
 pub bit-rest-requires : goal.bit-rest-requires
-bit-rest-requires c = let g = begins c in (g.low, g.high)
+bit-rest-requires c = let g = begins c.highest-p.result c.row_start-at.result c.loop-rest.end (pass-next c.args.word c.args.lists.now c.args.places c.loop-rest.left c.loop-rest.rest c.loop-rest.end c.loop-rest.invariant (omega arith)) c.highest-p.ensures c.row_start-at.ensures in (g.low, g.high)
 
 pub overflow_sub-rest : goal.overflow_sub-rest
 overflow_sub-rest c =
     let r = c in
-    let x = upcoming r in
+    let x = pass-next c.args.word c.args.lists.now c.args.places c.loop-rest.left c.loop-rest.rest c.loop-rest.end c.loop-rest.invariant (omega arith) in
     let k : r.highest-p.result - 1 ≡ x.list = omega (arith, r.highest-p.ensures, x.highest) in
     omega (arith, c.bit-rest.ensures, ap (λ (n : ℕ). 2 ^ n) k, x.low)
 
@@ -88,8 +79,8 @@ loop-rest-preserved c =
     let a = b.args in
     rw c.bit-rest.ensures
     (pass-passes a.word a.lists.now a.places b.loop-rest.left b.loop-rest.rest b.loop-rest.end r.highest-p.result r.row_start-at.result
-    (omega arith) b.loop-rest.invariant (upcoming r) r.highest-p.ensures r.row_start-at.ensures refl d.strike_row.ensures
-    (not-false _ c.if-not-strike_row.false))
+    (omega arith) b.loop-rest.invariant (pass-next c.args.word c.args.lists.now c.args.places c.loop-rest.left c.loop-rest.rest c.loop-rest.end c.loop-rest.invariant (omega arith)) r.highest-p.ensures r.row_start-at.ensures refl d.strike_row.ensures
+    (c.if-not-strike_row.false))
 
 pub slice_bounds-all_zero-end : goal.slice_bounds-all_zero-end
 slice_bounds-all_zero-end c =
@@ -104,7 +95,7 @@ returns-then-not-all_zero c =
     let b = z in
     let a = b.args in
     last-fails a.word a.lists.now a.places b.loop-rest.left b.loop-rest.rest b.loop-rest.end (omega arith) b.loop-rest.invariant (omega arith)
-    (sym z.all_zero.ensures ∙ not-true _ c.if-not-all_zero.true)
+    (sym z.all_zero.ensures ∙ c.if-not-all_zero.true)
 
 pub slice_bounds-all_zero-end-2 : goal.slice_bounds-all_zero-end-2
 slice_bounds-all_zero-end-2 c = sym c.loop-rest.invariant.array
@@ -117,4 +108,4 @@ returns c =
     let a = b.args in
     c.all_zero-2.ensures
     ∙ last-decides a.word a.lists.now a.places b.loop-rest.left b.loop-rest.rest b.loop-rest.end (omega arith) b.loop-rest.invariant (omega arith)
-    (sym z.all_zero.ensures ∙ not-false _ i.if-not-all_zero.false)
+    (sym z.all_zero.ensures ∙ c.if-not-all_zero.false)

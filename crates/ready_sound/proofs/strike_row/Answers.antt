@@ -6,7 +6,7 @@ use mathlib.Core.List.{List}
 use native.Mathlib.Omega.{arith}
 use lib.ListN.{length, take, drop, length-drop}
 use lib.Seq.{take_all, drop-drop}
-use borrow.Author.Tests.{lt-leb, le-leb, not-true, not-false}
+use borrow.Author.Tests.{lt-leb, le-leb}
 use Rattle.base.specs.Tests.{all, zeros}
 use Rattle.base.proofs.TestLaws.{all-false, all_one, false-true}
 use Rattle.ready.specs.Lists.{size, members, unused}
@@ -52,7 +52,7 @@ returns-then-not-all_zero c =
     let w = c in
     let u = unused-part w.args.part.now w.wide-n.result w.wide-n.ensures in
     let z = c.all_zero.ensures ∙ ap (λ (t : List ℕ). all (zeros t)) u in
-    record { test = sym (all-false _ 2 (sym z ∙ not-true _ c.if-not-all_zero.true)); rest = λ e. false-true e }
+    record { test = sym (all-false _ 2 (sym z ∙ c.if-not-all_zero.true)); rest = λ e. false-true e }
 
 pub returns : goal.returns
 returns c =
@@ -65,5 +65,5 @@ returns c =
     let g : 1 ≤ size a.part.now = rw w.ensures at z.if-n-lt1.false in
     let h : size a.part.now ≤ 32 = rw w.ensures at z.if-n-gt-THREADS.false in
     let e : all (zeros (unused a.part.now)) ≡ true =
-    sym (z.all_zero.ensures ∙ ap (λ (t : List ℕ). all (zeros t)) u) ∙ not-false _ c.if-not-all_zero.false in
+    sym (z.all_zero.ensures ∙ ap (λ (t : List ℕ). all (zeros t)) u) ∙ c.if-not-all_zero.false in
     tested a.p a.part.now a.left.now g h e m c.strike.ensures

@@ -3,7 +3,6 @@ use Prim.Native.Nat.{ℕ, ◌+◌, ◌*◌, ◌-◌, ◌≤◌, ◌<◌}
 use mathlib.Core.Bool.{Bool, true, false}
 use mathlib.Core.List.{List}
 use mathlib.Core.Path.{◌≡◌, refl, sym, ap, ◌∙◌, subst}
-use mathlib.Core.Logic.{⊎_elim}
 use native.Mathlib.Omega.{arith}
 use lib.ListN.{length, get_or, drop, length-drop}
 use lib.Seq.{get_or-drop}
@@ -13,6 +12,7 @@ use Rattle.text_numbers.specs.declared.Number.TheVariants as number
 use Rattle.text_numbers.specs.Numbers.{decimal_at, digit}
 use Rattle.text_numbers.proofs.NumberLaws.{digit-range, found, not_found, Scanned, scan-none, scan-next, scan-no-digit, scan-other-end, scan-zero-leads, scan-too-large, scan-found, scan-over}
 use Rattle.text_numbers.proofs.decimal_at.Goals as goal
+use Rattle.text_numbers.proofs.decimal_at.Goals.{then-place-i+else-value-eq0, else-place-i}
 
 -- the byte at i is the one at i - place from the place on
 byte-from : (s : List ℕ) (place i : ℕ) → place ≤ i → get_or (drop place s) (i - place) 0 ≡ get_or s i 0
@@ -73,7 +73,7 @@ returns-then-i-place c =
     let w = c.loop-i in
     let h = c.loop-i-test.true in
     let d = c.is_digit in
-    none_here a.text.now a.place a.most a.end w.value w.i w.invariant.0 w.invariant.1 h (sym d.ensures ∙ not-true d.result c.if-not-is_digit.true) c.if-i-place.true
+    none_here a.text.now a.place a.most a.end w.value w.i w.invariant.0 w.invariant.1 h (sym d.ensures ∙ c.if-not-is_digit.true) c.if-i-place.true
 
 pub returns-then-b-end : goal.returns-then-b-end
 returns-then-b-end c =
@@ -81,7 +81,7 @@ returns-then-b-end c =
     let w = c.loop-i in
     let h = c.loop-i-test.true in
     let d = c.is_digit in
-    other-here a.text.now a.place a.most a.end w.value w.i w.invariant.0 w.invariant.1 h (sym d.ensures ∙ not-true d.result c.if-not-is_digit.true) c.if-b-end.true
+    other-here a.text.now a.place a.most a.end w.value w.i w.invariant.0 w.invariant.1 h (sym d.ensures ∙ c.if-not-is_digit.true) c.if-b-end.true
 
 pub overflow_add-result : goal.overflow_add-result
 overflow_add-result c = omega arith
@@ -92,7 +92,7 @@ returns-then-not-is_digit c =
     let w = c.loop-i in
     let h = c.loop-i-test.true in
     let d = c.is_digit in
-    value-here a.text.now a.place a.most a.end w.value w.i w.invariant.0 w.invariant.1 h (sym d.ensures ∙ not-true d.result c.if-not-is_digit.true) c.if-i-place.false c.if-b-end.false
+    value-here a.text.now a.place a.most a.end w.value w.i w.invariant.0 w.invariant.1 h (sym d.ensures ∙ c.if-not-is_digit.true) c.if-i-place.false c.if-b-end.false
 
 pub returns-then-value-eq0 : goal.returns-then-value-eq0
 returns-then-value-eq0 c =
@@ -100,7 +100,7 @@ returns-then-value-eq0 c =
     let w = c.loop-i in
     let h = c.loop-i-test.true in
     let d = c.is_digit in
-    zero-here a.text.now a.place a.most a.end w.value w.i w.invariant.0 w.invariant.1 h (sym d.ensures ∙ not-false d.result c.if-not-is_digit.false) c.if-place-i.true c.if-value-eq0.true
+    zero-here a.text.now a.place a.most a.end w.value w.i w.invariant.0 w.invariant.1 h (sym d.ensures ∙ c.if-not-is_digit.false) c.if-place-i.true c.if-value-eq0.true
 
 pub overflow_sub-b : goal.overflow_sub-b
 overflow_sub-b c =
@@ -108,7 +108,7 @@ overflow_sub-b c =
     let w = c.loop-i in
     let h = c.loop-i-test.true in
     let d = c.is_digit in
-    let r = digit-range (get_or a.text.now w.i 0) (sym d.ensures ∙ not-false d.result c.if-not-is_digit.false) in
+    let r = digit-range (get_or a.text.now w.i 0) (sym d.ensures ∙ c.if-not-is_digit.false) in
     omega arith
 
 pub wide-d-requires : goal.wide-d-requires
@@ -120,8 +120,8 @@ returns-then-most-d c =
     let w = c.loop-i in
     let h = c.loop-i-test.true in
     let d = c.is_digit in
-    let r = digit-range (get_or a.text.now w.i 0) (sym d.ensures ∙ not-false d.result c.if-not-is_digit.false) in
-    large-here a.text.now a.place a.most a.end w.value w.i w.invariant.0 w.invariant.1 h (sym d.ensures ∙ not-false d.result c.if-not-is_digit.false) (omega (arith, c.wide-d.ensures, c.if-most-d.true))
+    let r = digit-range (get_or a.text.now w.i 0) (sym d.ensures ∙ c.if-not-is_digit.false) in
+    large-here a.text.now a.place a.most a.end w.value w.i w.invariant.0 w.invariant.1 h (sym d.ensures ∙ c.if-not-is_digit.false) (omega (arith, c.wide-d.ensures, c.if-most-d.true))
 
 pub returns-then-most-d-2 : goal.returns-then-most-d-2
 returns-then-most-d-2 c =
@@ -129,8 +129,8 @@ returns-then-most-d-2 c =
     let w = c.loop-i in
     let h = c.loop-i-test.true in
     let d = c.is_digit in
-    let r = digit-range (get_or a.text.now w.i 0) (sym d.ensures ∙ not-false d.result c.if-not-is_digit.false) in
-    large-here a.text.now a.place a.most a.end w.value w.i w.invariant.0 w.invariant.1 h (sym d.ensures ∙ not-false d.result c.if-not-is_digit.false) (omega (arith, c.wide-d.ensures, c.if-most-d-2.true))
+    let r = digit-range (get_or a.text.now w.i 0) (sym d.ensures ∙ c.if-not-is_digit.false) in
+    large-here a.text.now a.place a.most a.end w.value w.i w.invariant.0 w.invariant.1 h (sym d.ensures ∙ c.if-not-is_digit.false) (omega (arith, c.wide-d.ensures, c.if-most-d-2.true))
 
 pub overflow_mul-value : goal.overflow_mul-value
 overflow_mul-value c =
@@ -138,7 +138,7 @@ overflow_mul-value c =
     let w = c.loop-i in
     let h = c.loop-i-test.true in
     let d = c.is_digit in
-    let r = digit-range (get_or a.text.now w.i 0) (sym d.ensures ∙ not-false d.result c.if-not-is_digit.false) in
+    let r = digit-range (get_or a.text.now w.i 0) (sym d.ensures ∙ c.if-not-is_digit.false) in
     omega (arith, c.wide-d.ensures, c.if-most-d-2.false, c.ranges.most.fits)
 
 pub overflow_add-value : goal.overflow_add-value
@@ -147,7 +147,7 @@ overflow_add-value c =
     let w = c.loop-i in
     let h = c.loop-i-test.true in
     let d = c.is_digit in
-    let r = digit-range (get_or a.text.now w.i 0) (sym d.ensures ∙ not-false d.result c.if-not-is_digit.false) in
+    let r = digit-range (get_or a.text.now w.i 0) (sym d.ensures ∙ c.if-not-is_digit.false) in
     omega (arith, c.wide-d.ensures, c.if-most-d-2.false, c.if-most-d.false, c.ranges.most.fits)
 
 pub overflow_add-i : goal.overflow_add-i
@@ -162,11 +162,11 @@ loop-i-preserved c =
     let w = c.loop-i in
     let h = c.loop-i-test.true in
     let d = c.is_digit in
-    let r = digit-range (get_or a.text.now w.i 0) (sym d.ensures ∙ not-false d.result c.if-not-is_digit.false) in (
+    let r = digit-range (get_or a.text.now w.i 0) (sym d.ensures ∙ c.if-not-is_digit.false) in (
       omega arith,
       subst (λ (v : ℕ). Scanned a.most (drop a.place a.text.now) (w.i + 1 - a.place) (w.value * 10 + v)) (sym c.wide-d.ensures)
-          (next_here a.text.now a.place a.most a.end w.value w.i w.invariant.0 w.invariant.1 h (sym d.ensures ∙ not-false d.result c.if-not-is_digit.false)
-          (λ g z. ⊎_elim (λ q. q.1.left z) (λ q. let l = q.left in omega arith) c.if-place-i.branch)
+          (next_here a.text.now a.place a.most a.end w.value w.i w.invariant.0 w.invariant.1 h (sym d.ensures ∙ c.if-not-is_digit.false)
+          (λ g z. elim c.if-place-i.branch [ then-place-i+else-value-eq0 q ↦ q.if-value-eq0.false z | else-place-i q ↦ let l = q.if-place-i.false in omega arith ])
           (omega (arith, c.wide-d.ensures, c.if-most-d-2.false, c.if-most-d.false))),
     )
 

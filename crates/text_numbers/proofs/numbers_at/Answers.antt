@@ -44,12 +44,12 @@ pub loop-i-preserved : goal.loop-i-preserved
 loop-i-preserved c =
     let a = c.args in
     let w = c.loop-i in
-    let v = c.value-1.given.0 in
-    let n : decimal_at (get_or a.most.now w.i 0) (end_byte (eqb (w.i + 1) (length a.most.now))) a.text.now w.at ≡ number.Value v.0 v.1.0 =
+    let v = c.in-Value in
+    let n : decimal_at (get_or a.most.now w.i 0) (end_byte (eqb (w.i + 1) (length a.most.now))) a.text.now w.at ≡ number.Value v.value v.next =
     ap (λ (b : ℕ). decimal_at (get_or a.most.now w.i 0) b a.text.now w.at) (sym c.end_byte-end.ensures)
     ∙ sym c.decimal_at.ensures
-    ∙ c.value-1.given.1 in
-    (omega arith, left-next a.most.now (drop a.place a.text.now) a.text.now w.values w.at w.i w.invariant.1 c.loop-i-test.true c.requires v.0 v.1.0 n)
+    ∙ v.is in
+    (omega arith, left-next a.most.now (drop a.place a.text.now) a.text.now w.values w.at w.i w.invariant.1 c.loop-i-test.true c.requires v.value v.next n)
 
 pub no_numbers-requires : goal.no_numbers-requires
 no_numbers-requires c = tt
@@ -61,7 +61,7 @@ returns-in-Nothing c =
     let n : decimal_at (get_or a.most.now w.i 0) (end_byte (eqb (w.i + 1) (length a.most.now))) a.text.now w.at ≡ number.Nothing =
     ap (λ (b : ℕ). decimal_at (get_or a.most.now w.i 0) b a.text.now w.at) (sym c.end_byte-end.ensures)
     ∙ sym c.decimal_at.ensures
-    ∙ c.enum_told-1.given.1 in
+    ∙ c.in-Nothing.is in
     c.no_numbers.ensures
     ∙ not-numbers a.most.now (drop a.place a.text.now)
     (left-none a.most.now (drop a.place a.text.now) a.text.now w.values w.at w.i w.invariant.1 c.loop-i-test.true c.requires n)
