@@ -14,7 +14,7 @@ use Rattle.passing.specs.Time.{due_by}
 use Rattle.passing.specs.Sequence.{status}
 use Rattle.reports.specs.Tallies.{Tally, back_tally, both, tallied, numbers, more_of, Tellable}
 use Rattle.reports.proofs.TallyLaws.{both-none}
-use Rattle.reports.proofs.NumberLaws.{more_of}
+use Rattle.reports.proofs.NumberLaws.{more-of}
 use Rattle.thread.specs.declared.Thread.{Thread}
 use Rattle.state.specs.declared.State.{State}
 use Rattle.state.specs.State.{thread_at}
@@ -121,7 +121,7 @@ module _ (s₀ : State) (e : Event) (z : status executive s₀ e ≡ 0) (s : Sta
     pub told-own : (back : ℕ) → back ≡ own_back e.kind e.time (thread_at u j) → more_of j (back_tally back) told ≡ event_numbers s₀ e
     told-own back q =
         ap₂ (λ (b : ℕ) (xs : List ℕ). more_of j (back_tally b) xs) (q ∙ ap (λ (n : ℕ). own_back e.kind n (thread_at u j)) (sym now)) (h.all d)
-        ∙ more_of j (back_tally (own_back e.kind u.now (thread_at u j))) (reported s₀ e.time) small
+        ∙ more-of j (back_tally (own_back e.kind u.now (thread_at u j))) (reported s₀ e.time) small
         ∙ ap (λ (g : ℕ → Tally). numbers (both (reported s₀ e.time) g)) (sym (only-blocks-tell e.kind j (thread_at u j) u))
         ∙ ap (λ (i : ℕ). numbers (both (reported s₀ e.time) (tallied (own_log_of e.kind i (thread_at u i) u)))) who
         ∙ ap (λ (x : State). numbers (both (reported s₀ e.time) (tallied (own_log_of e.kind (concerned x e) (thread_at x (concerned x e)) x)))) is-passed

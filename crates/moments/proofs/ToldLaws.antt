@@ -12,7 +12,7 @@ use Rattle.passing.specs.Time.{due_by}
 use Rattle.reports.specs.Steps.{Log}
 use Rattle.reports.specs.Tallies.{Tally, tally, plus, returned, of_thread, no_tallies, both, tallied, numbers, more_of, Tellable}
 use Rattle.reports.proofs.TallyLaws.{none_both, both-none, both-both, of-thread-plus, AtMost, left-most, most-more}
-use Rattle.reports.proofs.NumberLaws.{numbers-length, no-numbers, numbers-most, more_of}
+use Rattle.reports.proofs.NumberLaws.{numbers-length, no-numbers, numbers-most, more-of}
 use Rattle.thread.specs.Thread.{is_blocked}
 use Rattle.state.specs.declared.State.{State}
 use Rattle.state.specs.State.{thread_at, account_at}
@@ -41,7 +41,7 @@ tell-more : (s₀ s u : State) (t i : ℕ) (x : Tally) (told : List ℕ) → Tel
 tell-more s₀ s u t i x told h l e =
     record {
       sofar = both h.sofar (of_thread i x);
-      numbered = ap (more_of i x) h.numbered ∙ more_of i x h.sofar l;
+      numbered = ap (more_of i x) h.numbered ∙ more-of i x h.sofar l;
       whole = both-both h.sofar (of_thread i x) (rest u t) ∙ ap (both h.sofar) (sym e) ∙ h.whole;
     }
 

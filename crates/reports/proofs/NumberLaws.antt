@@ -137,8 +137,8 @@ module _ (i x : ℕ) (f : ℕ → Tally) (l : i < 32) where
       (λ t. ap four (same-tally (tally t.limits t.quanta t.replenishments (t.amounts + x)) (plus t (tally 0 0 0 x)) (omega arith) (omega arith) (omega arith) refl)) 32 f l
 
 -- all four
-pub more_of : (i : ℕ) (x : Tally) (f : ℕ → Tally) → i < 32 → more_of i x (numbers f) ≡ numbers (both f (of_thread i x))
-more_of i x f l =
+pub more-of : (i : ℕ) (x : Tally) (f : ℕ → Tally) → i < 32 → more_of i x (numbers f) ≡ numbers (both f (of_thread i x))
+more-of i x f l =
     let a = of_thread i (tally x.limits 0 0 0) in
     let b = of_thread i (tally 0 x.quanta 0 0) in
     let c = of_thread i (tally 0 0 x.replenishments 0) in

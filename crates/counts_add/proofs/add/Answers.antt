@@ -39,11 +39,9 @@ loop-k-smaller c = omega arith
 pub loop-k-preserved : goal.loop-k-preserved
 loop-k-preserved c =
     let w = c.loop-k in
-    let s = c in
-    (omega arith, added_next w.k s.args.sums.now s.args.told.now w.sums (omega (arith, s.requires.all)) w.invariant.1)
+    (omega arith, added_next w.k c.args.sums.now c.args.told.now w.sums (omega (arith, c.requires.all)) w.invariant.1)
 
 pub returns : goal.returns
 returns c =
     let w = c.loop-k in
-    let s = c in
-    added-all w.k s.args.sums.now s.args.told.now w.sums (omega (arith, s.requires.all)) w.invariant.1
+    added-all w.k c.args.sums.now c.args.told.now w.sums (omega (arith, c.requires.all)) w.invariant.1

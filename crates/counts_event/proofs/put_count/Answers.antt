@@ -8,13 +8,10 @@ use Rattle.counts_event.proofs.put_count.Goals as goal
 
 pub returns-then-is_quiet : goal.returns-then-is_quiet
 returns-then-is_quiet c =
-    let q = c in
-    let a = q.args in
-    (quiet_put a.xs.now a.i (sym c.if-is_quiet.true ∙ q.is_quiet.ensures) (nothing a.out.now a.at), omega arith)
+    let a = c.args in
+    (quiet_put a.xs.now a.i (sym c.if-is_quiet.true ∙ c.is_quiet.ensures) (nothing a.out.now a.at), omega arith)
 
 pub returns : goal.returns
 returns c =
-    let t = c in
-    let q = t in
-    let a = q.args in
-    (count-put a.xs.now a.i (sym t.if-is_quiet.false ∙ q.is_quiet.ensures) t.put_thread.ensures.0, t.put_thread.ensures.1)
+    let a = c.args in
+    (count-put a.xs.now a.i (sym c.if-is_quiet.false ∙ c.is_quiet.ensures) c.put_thread.ensures.0, c.put_thread.ensures.1)

@@ -11,7 +11,7 @@ use Rattle.counts_text.proofs.LineLaws.{event-put, lines_none, lines_next}
 use Rattle.counts_event.proofs.put_event.Goals as goal
 
 pub put_event_line-here-requires : goal.put_event_line-here-requires
-put_event_line-here-requires c = let s = c in (omega (arith, s.requires.0), omega (arith, s.requires.2))
+put_event_line-here-requires c = (omega (arith, c.requires.0), omega (arith, c.requires.2))
 
 pub loop-t-init : goal.loop-t-init
 loop-t-init c = (omega arith, refl, omega arith, lines_none _ _ _)
@@ -19,20 +19,16 @@ loop-t-init c = (omega arith, refl, omega arith, lines_none _ _ _)
 pub put_count-here-requires : goal.put_count-here-requires
 put_count-here-requires c =
     let w = c.loop-t in
-    let e = c in
-    let s = e in
-    (omega (arith, s.requires.1), omega (arith, s.requires.1, s.requires.2, w.invariant.1, w.invariant.2, e.put_event_line-here.auto.out, e.put_event_line-here.ensures.1))
+    (omega (arith, c.requires.1), omega (arith, c.requires.1, c.requires.2, w.invariant.1, w.invariant.2, c.put_event_line-here.auto.out, c.put_event_line-here.ensures.1))
 
 pub loop-t-preserved : goal.loop-t-preserved
 loop-t-preserved c =
     let p = c.put_count-here in
-    let w = c.loop-t in
-    let e = c in
-    let s = e in (
+    let w = c.loop-t in (
       omega arith,
       p.auto.out ∙ w.invariant.1,
       omega (arith, w.invariant.2, p.ensures.1),
-      lines_next (count_line s.args.told.now) w.t (omega (arith, s.requires.1, s.requires.2, w.invariant.2, e.put_event_line-here.auto.out, e.put_event_line-here.ensures.1)) w.invariant.3 p.ensures.0,
+      lines_next (count_line c.args.told.now) w.t (omega (arith, c.requires.1, c.requires.2, w.invariant.2, c.put_event_line-here.auto.out, c.put_event_line-here.ensures.1)) w.invariant.3 p.ensures.0,
     )
 
 pub shape_of-out : goal.shape_of-out
@@ -41,10 +37,8 @@ shape_of-out c = c.loop-t.invariant.1 ∙ c.put_event_line-here.auto.out
 pub returns : goal.returns
 returns c =
     let w = c.loop-t in
-    let e = c in
-    let s = e in
-    let a = s.args in
+    let a = c.args in
     let k : w.t ≡ a.n = omega arith in (
-      event-put a.i a.status a.n a.told.now (omega (arith, s.requires.2, e.put_event_line-here.ensures.1)) e.put_event_line-here.ensures.0 (rw k at w.invariant.3),
-      omega (arith, w.invariant.2, e.put_event_line-here.ensures.1, s.requires.1),
+      event-put a.i a.status a.n a.told.now (omega (arith, c.requires.2, c.put_event_line-here.ensures.1)) c.put_event_line-here.ensures.0 (rw k at w.invariant.3),
+      omega (arith, w.invariant.2, c.put_event_line-here.ensures.1, c.requires.1),
     )

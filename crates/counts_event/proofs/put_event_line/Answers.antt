@@ -9,29 +9,20 @@ use Rattle.counts_event.proofs.put_event_line.Goals as goal
 pub put_field-there-requires : goal.put_field-there-requires
 unfolding event_line
 put_field-there-requires c =
-    let w = c in
-    let s = w in
-    let a = s.args in
-    let h = within 0 (event-length a.i s.requires.0 s.ranges.status) s.requires.1 in
-    room-b a.out.now 0 event_word (field a.i space) (field a.status newline) h w.put_word-here.ensures
+    let a = c.args in
+    let h = within 0 (event-length a.i c.requires.0 c.ranges.status) c.requires.1 in
+    room-b a.out.now 0 event_word (field a.i space) (field a.status newline) h c.put_word-here.ensures
 
 pub put_field-requires : goal.put_field-requires
 unfolding event_line
 put_field-requires c =
-    let f = c in
-    let w = f in
-    let s = w in
-    let a = s.args in
-    let h = within 0 (event-length a.i s.requires.0 s.ranges.status) s.requires.1 in
-    room-c a.out.now 0 event_word (field a.i space) (field a.status newline) h w.put_word-here.ensures f.put_field-there.ensures
+    let a = c.args in
+    let h = within 0 (event-length a.i c.requires.0 c.ranges.status) c.requires.1 in
+    room-c a.out.now 0 event_word (field a.i space) (field a.status newline) h c.put_word-here.ensures c.put_field-there.ensures
 
 pub returns : goal.returns
 unfolding event_line
 returns c =
-    let g = c in
-    let f = g in
-    let w = f in
-    let s = w in
-    let a = s.args in
-    let l = event-length a.i s.requires.0 s.ranges.status in
-    ended l (all_three a.out.now 0 event_word (field a.i space) (field a.status newline) (within 0 l s.requires.1) w.put_word-here.ensures f.put_field-there.ensures g.put_field.ensures)
+    let a = c.args in
+    let l = event-length a.i c.requires.0 c.ranges.status in
+    ended l (all_three a.out.now 0 event_word (field a.i space) (field a.status newline) (within 0 l c.requires.1) c.put_word-here.ensures c.put_field-there.ensures c.put_field.ensures)

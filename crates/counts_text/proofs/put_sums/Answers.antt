@@ -17,18 +17,16 @@ loop-t-init c = (omega arith, refl, omega arith, lines_none _ _ _)
 pub put_thread-here-requires : goal.put_thread-here-requires
 put_thread-here-requires c =
     let w = c.loop-t in
-    let s = c in
-    (omega (arith, s.requires.0), omega arith, omega (arith, s.requires.0, s.requires.1, w.invariant.1, w.invariant.2))
+    (omega (arith, c.requires.0), omega arith, omega (arith, c.requires.0, c.requires.1, w.invariant.1, w.invariant.2))
 
 pub loop-t-preserved : goal.loop-t-preserved
 loop-t-preserved c =
     let p = c.put_thread-here in
-    let w = c.loop-t in
-    let s = c in (
+    let w = c.loop-t in (
       omega arith,
       p.auto.out ∙ w.invariant.1,
       omega (arith, w.invariant.2, p.ensures.1),
-      lines_next (thread_line sum_word s.args.sums.now) w.t (omega (arith, s.requires.0, s.requires.1, w.invariant.2)) w.invariant.3 p.ensures.0,
+      lines_next (thread_line sum_word c.args.sums.now) w.t (omega (arith, c.requires.0, c.requires.1, w.invariant.2)) w.invariant.3 p.ensures.0,
     )
 
 pub shape_of-out : goal.shape_of-out
@@ -38,6 +36,5 @@ pub returns : goal.returns
 unfolding sums_text
 returns c =
     let w = c.loop-t in
-    let s = c in
-    let k : w.t ≡ s.args.n = omega arith in
-    (rw k at w.invariant.3, omega (arith, w.invariant.2, s.requires.0))
+    let k : w.t ≡ c.args.n = omega arith in
+    (rw k at w.invariant.3, omega (arith, w.invariant.2, c.requires.0))

@@ -21,11 +21,10 @@ use Rattle.state.specs.declared.State.{State}
 use Rattle.state.specs.State.{thread_at, pending_at, place}
 use Rattle.state.specs.Sound.{thread_test, present_test, absent_test, totals, sound_tests, sound_state}
 use Rattle.state.specs.Updates.{state_of}
-use Rattle.state.proofs.TestLaws.{decided-true, decided-false, ◌and◌, by_last, below_next, below_false, eqb_same}
+use Rattle.state.proofs.TestLaws.{◌and◌, by_last, below_next, below_false, eqb_same}
 use Rattle.state.proofs.ThreadLaws.{Filled, fill-next, fill_end, totals-next}
 use Rattle.state.proofs.AbsentLaws.{no_thread_tests, at-absent, at-present, none_in, none-thread, none-slots, none-run, absent-place, absent-total}
-use Rattle.parts_sound.proofs.sound_parts.Invariants.{None, many, low, high, each, Passed, few, none, range, many, held, array, filled, unfilled, rest, Bounds, few, dues, amounts}
-use Rattle.parts_sound.proofs.sound_parts.Lts as lts
+use Rattle.parts_sound.proofs.sound_parts.Invariants.{None, Passed, Bounds}
 use Rattle.parts_sound.proofs.sound_parts.Goals as goal
 
 -- the start time, all run times and the idle time
@@ -110,35 +109,14 @@ nearer n i l = omega arith
 first_rest : (now start total : ℕ) → start ≤ now → now - start + (start + total) ≡ now + total
 first_rest now start total h = omega arith
 
--- the state of these parts, at the entry and in each loop
-abbrev parts : lts.Start → State
-parts b =
-    let a = b.args in
-    state_of a.header a.time a.idle a.word a.t5 a.counts.now a.dues.now a.amounts.now a.lists.now
-
-abbrev scanning : lts.At-loop → State
-scanning b = parts b.before.before.before.before.before.before.before.before.before
-
-abbrev passing : lts.At-loop2 → State
-passing b = scanning b.before.before.before.before.before.before.before
-
-bounds : (b : lts.At-loop) → Bounds (scanning b)
-bounds b =
-    let a = b.before.before.before.before.before.before.before.before.before in
-    record { few = b.before.before.before.before.before.if2.false; dues = a.requires.1; amounts = a.requires.2 }
-
--- a turn of the second loop is for a thread
-within : (c : lts.In-loop2) → c.loop-i.i < 32
-within c = below_all _ (passing c).header.n 32 c.loop-i-test.true c.loop-i.invariant.few
-
 -- what was answered for thread i, below N
 module _ (s : State) (few : s.header.n ≤ 32) (i : ℕ) (g : i < s.header.n) {r : Bool}
     (e : r ≡ present_test s.header.start s.now (thread_at s i) (pending_at s i)) where
-  thread-true : not r ≡ false → thread_test s i ≡ true
-  thread-true f = at-present s few i g ∙ decided-true r e f
+  thread-true : r ≡ true → thread_test s i ≡ true
+  thread-true f = at-present s few i g ∙ sym e ∙ f
 
-  thread-false : not r ≡ true → thread_test s i ≡ false
-  thread-false f = at-present s few i g ∙ decided-false r e f
+  thread-false : r ≡ false → thread_test s i ≡ false
+  thread-false f = at-present s few i g ∙ sym e ∙ f
 
 -- no place is filled in at the start
 unfilled-first : (ts : List Thread) (counts places : List ℕ) → Filled ts counts places 0
@@ -150,23 +128,23 @@ unsound s e f = sym (never_true _ (λ y. false-true (sym e ∙ f y)))
 
 pub returns-then-header-lt1 : goal.returns-then-header-lt1
 unfolding sound_state
-returns-then-header-lt1 c = sym (all-false (sound_tests (parts c)) 0 (lt-leb _ _ c.if-header-lt1.true))
+returns-then-header-lt1 c = sym (all-false (sound_tests (state_of c.args.header c.args.time c.args.idle c.args.word c.args.threads c.args.counts.now c.args.dues.now c.args.amounts.now c.args.lists.now)) 0 (lt-leb _ _ c.if-header-lt1.true))
 
 pub returns-then-header-gt-MOST : goal.returns-then-header-gt-MOST
 unfolding sound_state
 returns-then-header-gt-MOST c =
-    let s = parts c in
+    let s = (state_of c.args.header c.args.time c.args.idle c.args.word c.args.threads c.args.counts.now c.args.dues.now c.args.amounts.now c.args.lists.now) in
     let h : most_threads < s.header.n = omega (arith, c.if-header-gt-MOST.true) in
     sym (all-false (sound_tests s) 1 (lt-leb s.header.n most_threads h))
 
 pub returns-then-time-header : goal.returns-then-time-header
 unfolding sound_state
-returns-then-time-header c = sym (all-false (sound_tests (parts c)) 2 (lt-leb _ _ c.if-time-header.true))
+returns-then-time-header c = sym (all-false (sound_tests (state_of c.args.header c.args.time c.args.idle c.args.word c.args.threads c.args.counts.now c.args.dues.now c.args.amounts.now c.args.lists.now)) 2 (lt-leb _ _ c.if-time-header.true))
 
 pub returns-then-time-gt-LAST_TIME : goal.returns-then-time-gt-LAST_TIME
 unfolding sound_state
 returns-then-time-gt-LAST_TIME c =
-    let s = parts c in
+    let s = (state_of c.args.header c.args.time c.args.idle c.args.word c.args.threads c.args.counts.now c.args.dues.now c.args.amounts.now c.args.lists.now) in
     let h : last_time < s.now = omega (arith, c.if-time-gt-LAST_TIME.true) in
     sym (all-false (sound_tests s) 3 (lt-leb s.now last_time h))
 
@@ -188,9 +166,9 @@ bounds-counts-k c = c.loop-k-test.true
 pub returns-then-not-no_thread : goal.returns-then-not-no_thread
 returns-then-not-no_thread c =
     let b = c in
-    let n = bounds b in
-    unsound (scanning b) (decided-false _ c.no_thread.ensures c.if-not-no_thread.true)
-    (λ y. none-thread (scanning b) n.few n.dues n.amounts y b.loop-k.k b.loop-k.invariant.low c.loop-k-test.true)
+    let n : Bounds (state_of c.args.header c.args.time c.args.idle c.args.word c.args.threads c.args.counts.now c.args.dues.now c.args.amounts.now c.args.lists.now) = record { few = c.if-header-gt-MOST.false; dues = c.requires.1; amounts = c.requires.2 } in
+    unsound (state_of c.args.header c.args.time c.args.idle c.args.word c.args.threads c.args.counts.now c.args.dues.now c.args.amounts.now c.args.lists.now) (sym c.no_thread.ensures ∙ c.if-not-no_thread.true)
+    (λ y. none-thread (state_of c.args.header c.args.time c.args.idle c.args.word c.args.threads c.args.counts.now c.args.dues.now c.args.amounts.now c.args.lists.now) n.few n.dues n.amounts y b.loop-k.k b.loop-k.invariant.low c.loop-k-test.true)
 
 pub overflow_add-k : goal.overflow_add-k
 overflow_add-k c = next_fits _ c.loop-k-test.true
@@ -201,64 +179,60 @@ loop-k-smaller c = nearer 32 _ c.loop-k-test.true
 pub loop-k-preserved : goal.loop-k-preserved
 loop-k-preserved c =
     let b = c in
-    more (scanning b) b.loop-k.k b.loop-k.invariant c.loop-k-test.true (decided-true _ c.no_thread.ensures c.if-not-no_thread.false)
+    more (state_of c.args.header c.args.time c.args.idle c.args.word c.args.threads c.args.counts.now c.args.dues.now c.args.amounts.now c.args.lists.now) b.loop-k.k b.loop-k.invariant c.loop-k-test.true (sym c.no_thread.ensures ∙ c.if-not-no_thread.false)
 
 pub returns-then-not-no_slots : goal.returns-then-not-no_slots
 returns-then-not-no_slots c =
     let b = c in
-    let n = bounds b in
-    unsound (scanning b) (decided-false _ c.no_slots.ensures c.if-not-no_slots.true) (λ y. none-slots (scanning b) n.few n.dues n.amounts y)
+    let n : Bounds (state_of c.args.header c.args.time c.args.idle c.args.word c.args.threads c.args.counts.now c.args.dues.now c.args.amounts.now c.args.lists.now) = record { few = c.if-header-gt-MOST.false; dues = c.requires.1; amounts = c.requires.2 } in
+    unsound (state_of c.args.header c.args.time c.args.idle c.args.word c.args.threads c.args.counts.now c.args.dues.now c.args.amounts.now c.args.lists.now) (sym c.no_slots.ensures ∙ c.if-not-no_slots.true) (λ y. none-slots (state_of c.args.header c.args.time c.args.idle c.args.word c.args.threads c.args.counts.now c.args.dues.now c.args.amounts.now c.args.lists.now) n.few n.dues n.amounts y)
 
 pub loop-i-init : goal.loop-i-init
 unfolding below
 loop-i-init c =
     let b = c in
-    let n = bounds b in
+    let n : Bounds (state_of c.args.header c.args.time c.args.idle c.args.word c.args.threads c.args.counts.now c.args.dues.now c.args.amounts.now c.args.lists.now) = record { few = c.if-header-gt-MOST.false; dues = c.requires.1; amounts = c.requires.2 } in
     let k = c.loop-k-test.false in
     record {
       few = n.few;
-      none = none_in (scanning b) n.few n.dues n.amounts (λ j lo up. b.loop-k.invariant.each j lo (below_all j 32 b.loop-k.k up k))
-          (decided-true _ c.no_slots.ensures c.if-not-no_slots.false);
+      none = none_in (state_of c.args.header c.args.time c.args.idle c.args.word c.args.threads c.args.counts.now c.args.dues.now c.args.amounts.now c.args.lists.now) n.few n.dues n.amounts (λ j lo up. b.loop-k.invariant.each j lo (below_all j 32 b.loop-k.k up k))
+          (sym c.no_slots.ensures ∙ c.if-not-no_slots.false);
       range = omega arith;
       many = b.loop-k.invariant.many;
       held = refl;
       array = omega arith;
-      filled = unfilled-first (scanning b).threads (scanning b).counts (replicate 32 0);
+      filled = unfilled-first (state_of c.args.header c.args.time c.args.idle c.args.word c.args.threads c.args.counts.now c.args.dues.now c.args.amounts.now c.args.lists.now).threads (state_of c.args.header c.args.time c.args.idle c.args.word c.args.threads c.args.counts.now c.args.dues.now c.args.amounts.now c.args.lists.now).counts (replicate 32 0);
       unfilled = λ j lo up. get_or-replicate 32 j 0 0 up;
-      rest = first_rest (scanning b).now (scanning b).header.start (totals (scanning b).threads) b.if-time-header.false;
+      rest = first_rest (state_of c.args.header c.args.time c.args.idle c.args.word c.args.threads c.args.counts.now c.args.dues.now c.args.amounts.now c.args.lists.now).now (state_of c.args.header c.args.time c.args.idle c.args.word c.args.threads c.args.counts.now c.args.dues.now c.args.amounts.now c.args.lists.now).header.start (totals (state_of c.args.header c.args.time c.args.idle c.args.word c.args.threads c.args.counts.now c.args.dues.now c.args.amounts.now c.args.lists.now).threads) b.if-time-header.false;
     }
 
 pub offset_bounds-threads-i : goal.offset_bounds-threads-i
 offset_bounds-threads-i c = omega arith
 
 pub bounds-threads-i : goal.bounds-threads-i
-bounds-threads-i c = within c
+bounds-threads-i c = below_all _ c.args.header.n 32 c.loop-i-test.true c.loop-i.invariant.few
 
 pub returns-then-not-thread_holds : goal.returns-then-not-thread_holds
 unfolding sound_state
 returns-then-not-thread_holds c =
     let b = c in
-    let s = passing b in
+    let s = (state_of c.args.header c.args.time c.args.idle c.args.word c.args.threads c.args.counts.now c.args.dues.now c.args.amounts.now c.args.lists.now) in
     sym
     (all-false (sound_tests s) 8
-    (below_false 32 (thread_test s) b.loop-i.i (within c)
+    (below_false 32 (thread_test s) b.loop-i.i (below_all _ c.args.header.n 32 c.loop-i-test.true c.loop-i.invariant.few)
     (thread-false s b.loop-i.invariant.few b.loop-i.i c.loop-i-test.true c.thread_holds.ensures c.if-not-thread_holds.true)))
 
 pub returns-then-left-t : goal.returns-then-left-t
 unfolding sound_state
 returns-then-left-t c =
     let b = c in
-    sym (all-false (sound_tests (passing b)) 10 (over b.loop-i.invariant c.loop-i-test.true c.if-left-t.true))
-
-element-copy-out-assigned-place :
-    tie.Need-element-copy-out-assigned-place invariant-loop decreases-loop invariant-loop2 decreases-loop2
-element-copy-out-assigned-place c = within c
+    sym (all-false (sound_tests (state_of c.args.header c.args.time c.args.idle c.args.word c.args.threads c.args.counts.now c.args.dues.now c.args.amounts.now c.args.lists.now)) 10 (over b.loop-i.invariant c.loop-i-test.true c.if-left-t.true))
 
 pub bounds-places-i : goal.bounds-places-i
-bounds-places-i c = within c
+bounds-places-i c = below_all _ c.args.header.n 32 c.loop-i-test.true c.loop-i.invariant.few
 
 pub overflow_add-i : goal.overflow_add-i
-overflow_add-i c = next_fits _ (within c)
+overflow_add-i c = next_fits _ (below_all _ c.args.header.n 32 c.loop-i-test.true c.loop-i.invariant.few)
 
 pub loop-i-smaller : goal.loop-i-smaller
 loop-i-smaller c = nearer _ _ c.loop-i-test.true
@@ -269,7 +243,7 @@ loop-i-preserved c =
     let e = p in
     let h = e in
     let b = h in
-    let s = passing b in
+    let s = (state_of c.args.header c.args.time c.args.idle c.args.word c.args.threads c.args.counts.now c.args.dues.now c.args.amounts.now c.args.lists.now) in
     next b.loop-i.invariant _ h.loop-i-test.true
     (thread-true s b.loop-i.invariant.few b.loop-i.i h.loop-i-test.true h.thread_holds.ensures h.if-not-thread_holds.false)
     e.if-left-t.false p.assigned_place.ensures
@@ -279,18 +253,18 @@ unfolding sound_state
 returns-then-not-sound c =
     let b = c in
     sym
-    (all-false (sound_tests (passing b)) 9
-    (decided-false _ (listed b.loop-i.invariant c.loop-i-test.false _ c.sound.ensures) c.if-not-sound.true))
+    (all-false (sound_tests (state_of c.args.header c.args.time c.args.idle c.args.word c.args.threads c.args.counts.now c.args.dues.now c.args.amounts.now c.args.lists.now)) 9
+    (sym (listed b.loop-i.invariant c.loop-i-test.false _ c.sound.ensures) ∙ c.if-not-sound.true))
 
 pub returns : goal.returns
 unfolding sound_state
 returns c =
     let b = c in
-    let s = passing b in
+    let s = (state_of c.args.header c.args.time c.args.idle c.args.word c.args.threads c.args.counts.now c.args.dues.now c.args.amounts.now c.args.lists.now) in
     let h = b.loop-i.invariant in
     let g = c.loop-i-test.false in
     let l = b in
-    let n = bounds l in
+    let n : Bounds s = record { few = c.if-header-gt-MOST.false; dues = c.requires.1; amounts = c.requires.2 } in
     let e = l in
     let t : s.now ≤ last_time = omega (arith, e.if-time-gt-LAST_TIME.false) in
     by_last (sound_tests s) (timed h g)
@@ -303,5 +277,5 @@ returns c =
     and eq-eqb (length s.dues) 256 n.dues
     and eq-eqb (length s.amounts) 256 n.amounts
     and every h g
-    and decided-true _ (listed h g _ c.sound.ensures) c.if-not-sound.false
+    and sym (listed h g _ c.sound.ensures) ∙ c.if-not-sound.false
     and tt)

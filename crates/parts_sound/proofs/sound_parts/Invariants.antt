@@ -1,4 +1,4 @@
--- `parts_sound::sound_parts` meets its contract: a part that fails makes the list of tests false, and where the others hold the
+-- `parts_sound::sound_parts`: what its loops keep.
 use Prim.Native.Nat.{ℕ, ◌+◌, ◌-◌, ◌≤◌, ◌<◌}
 use mathlib.Core.Bool.{Bool, true, false, not}
 use mathlib.Core.Path.{◌≡◌, refl, sym, ap, fun_ext, ◌∙◌}
@@ -27,28 +27,28 @@ use Rattle.parts_sound.proofs.sound_parts.Given as goal
 
 -- the places from N on before k hold no thread, their slots apart
 pub record None (s : State) (k : ℕ) : Type 0 where
-  many : length s.threads ≡ 32
-  low : s.header.n ≤ k
-  high : k ≤ 32
-  each : (j : ℕ) → s.header.n ≤ j → j < k → all (no_thread_tests (thread_at s j) (get_or s.counts j 0)) ≡ true
+  pub many : length s.threads ≡ 32
+  pub low : s.header.n ≤ k
+  pub high : k ≤ 32
+  pub each : (j : ℕ) → s.header.n ≤ j → j < k → all (no_thread_tests (thread_at s j) (get_or s.counts j 0)) ≡ true
 
 -- after i of the N threads: their tests hold, their places are filled in and no other, and what is left is what their times leave
 pub record Passed (s : State) (left : ℕ) (places : List ℕ) (i : ℕ) : Type 0 where
-  few : s.header.n ≤ 32
-  none : (j : ℕ) → s.header.n ≤ j → j < 32 → absent_test (thread_at s j) (pending_at s j) ≡ true
-  range : i ≤ s.header.n
-  many : length s.threads ≡ 32
-  held : below i (thread_test s) ≡ true
-  array : length places ≡ 32
-  filled : Filled s.threads s.counts places i
-  unfilled : (j : ℕ) → i ≤ j → j < 32 → get_or places j 0 ≡ 0
-  rest : left + (s.header.start + totals s.threads) ≡ s.now + totals (drop i s.threads)
+  pub few : s.header.n ≤ 32
+  pub none : (j : ℕ) → s.header.n ≤ j → j < 32 → absent_test (thread_at s j) (pending_at s j) ≡ true
+  pub range : i ≤ s.header.n
+  pub many : length s.threads ≡ 32
+  pub held : below i (thread_test s) ≡ true
+  pub array : length places ≡ 32
+  pub filled : Filled s.threads s.counts places i
+  pub unfilled : (j : ℕ) → i ≤ j → j < 32 → get_or places j 0 ≡ 0
+  pub rest : left + (s.header.start + totals s.threads) ≡ s.now + totals (drop i s.threads)
 
 -- N threads at most, and slots for all of them
 pub record Bounds (s : State) : Type 0 where
-  few : s.header.n ≤ 32
-  dues : length s.dues ≡ 256
-  amounts : length s.amounts ≡ 256
+  pub few : s.header.n ≤ 32
+  pub dues : length s.dues ≡ 256
+  pub amounts : length s.amounts ≡ 256
 
 abbrev pub invariant-loop-k : goal.invariant-loop-k
 invariant-loop-k l = None (state_of l.header l.time l.idle l.word l.threads l.counts l.dues l.amounts l.lists) l.k

@@ -7,12 +7,10 @@ use Rattle.refusal_line.proofs.put_refusal.Goals as goal
 
 pub put_labelled-requires : goal.put_labelled-requires
 put_labelled-requires c =
-    let s = c in
-    omega (arith, labelled-length refused_word {n = s.args.status} (omega arith), s.requires)
+    omega (arith, labelled-length refused_word {n = c.args.status} (omega arith), c.requires)
 
 pub returns : goal.returns
 unfolding refused_line
 returns c =
     let p = c.put_labelled in
-    let s = c in
-    (p.ensures, omega (arith, p.ensures.next, labelled-length refused_word {n = s.args.status} (omega arith)))
+    (p.ensures, omega (arith, p.ensures.next, labelled-length refused_word {n = c.args.status} (omega arith)))

@@ -13,21 +13,19 @@ pub returns-then-back-eq0 : goal.returns-then-back-eq0
 returns-then-back-eq0 c = let a = c.args in none_told a.i a.back a.told.now c.if-back-eq0.true
 
 pub add-requires : goal.add-requires
-add-requires c = let b = c in (omega arith, b.requires.1.0, omega (arith, b.requires.1.1 (b.args.i * 4 + 2)))
+add-requires c = (omega arith, c.requires.1.0, omega (arith, c.requires.1.1 (c.args.i * 4 + 2)))
 
 pub add-requires-2 : goal.add-requires-2
 add-requires-2 c =
-    let b = c in
-    let i = b.args.i in
-    let xs = b.args.told.now in (
+    let i = c.args.i in
+    let xs = c.args.told.now in (
       omega arith,
-      ap (λ (l : List ℕ). length l) c.add.ensures ∙ more-length (i * 4 + 2) 1 xs ∙ b.requires.1.0,
-      omega (arith, ap (λ (l : List ℕ). get_or l (i * 4 + 3) 0) c.add.ensures, more-other (i * 4 + 2) (i * 4 + 3) 1 xs (λ z. omega arith), b.requires.1.1 (i * 4 + 3)),
+      ap (λ (l : List ℕ). length l) c.add.ensures ∙ more-length (i * 4 + 2) 1 xs ∙ c.requires.1.0,
+      omega (arith, ap (λ (l : List ℕ). get_or l (i * 4 + 3) 0) c.add.ensures, more-other (i * 4 + 2) (i * 4 + 3) 1 xs (λ z. omega arith), c.requires.1.1 (i * 4 + 3)),
     )
 
 pub returns : goal.returns
 returns c =
-    let b = c in
     c.add-2.ensures
-    ∙ ap (more (b.args.i * 4 + 3) b.args.back) c.add.ensures
-    ∙ back-told b.args.i b.args.back b.args.told.now c.if-back-eq0.false
+    ∙ ap (more (c.args.i * 4 + 3) c.args.back) c.add.ensures
+    ∙ back-told c.args.i c.args.back c.args.told.now c.if-back-eq0.false

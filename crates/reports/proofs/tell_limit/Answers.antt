@@ -8,15 +8,14 @@ use Rattle.reports.proofs.TellLaws.{limit-told, more_room}
 use Rattle.reports.proofs.tell_limit.Goals as goal
 
 pub add-requires : goal.add-requires
-add-requires c = let b = c in (omega arith, b.requires.1.0, omega (arith, b.requires.1.1 (b.args.i * 4)))
+add-requires c = (omega arith, c.requires.1.0, omega (arith, c.requires.1.1 (c.args.i * 4)))
 
 pub tell_back-requires : goal.tell_back-requires
 tell_back-requires c =
-    let b = c in
-    let i = b.args.i in (
-      b.requires.0,
-      subst⁻¹ (Tellable (b.args.back + 1)) c.add.ensures
-          (more_room (b.args.back + 1) 1 (i * 4) b.args.told.now (omega (arith, b.requires.1.0)) (b.requires.1.0, λ k. omega (arith, b.requires.1.1 k))),
+    let i = c.args.i in (
+      c.requires.0,
+      subst⁻¹ (Tellable (c.args.back + 1)) c.add.ensures
+          (more_room (c.args.back + 1) 1 (i * 4) c.args.told.now (omega (arith, c.requires.1.0)) (c.requires.1.0, λ k. omega (arith, c.requires.1.1 k))),
     )
 
 pub returns : goal.returns

@@ -1,16 +1,16 @@
 -- `thread_sound::present_fields` meets its contract.
 use Prim.Native.Nat.{◌≤◌, ◌<◌}
-use mathlib.Core.Path.{sym}
+use mathlib.Core.Path.{sym, ◌∙◌}
 use native.Mathlib.Omega.{arith}
 use borrow.Author.Rules.{rules}
 use borrow.Author.Tests.{eq-eqb, ne_eqb, le-leb, lt-leb}
 use Rattle.base.proofs.TestLaws.{all-false}
 use Rattle.state.specs.Sound.{present_fields}
-use Rattle.state.proofs.TestLaws.{decided-true, decided-false, ◌and◌, by_last}
+use Rattle.state.proofs.TestLaws.{◌and◌, by_last}
 use Rattle.thread_sound.proofs.present_fields.Goals as goal
 
 pub returns-then-not-in_range : goal.returns-then-not-in_range
-returns-then-not-in_range c = sym (all-false _ 0 (decided-false _ c.in_range.ensures c.if-not-in_range.true))
+returns-then-not-in_range c = sym (all-false _ 0 (sym c.in_range.ensures ∙ c.if-not-in_range.true))
 
 pub returns-then-p-ne0 : goal.returns-then-p-ne0
 returns-then-p-ne0 c = sym (all-false _ 1 (ne_eqb _ _ c.if-p-ne0.true))
@@ -28,4 +28,4 @@ returns c =
     let t = d.args.t in
     let h : t.blocked ≤ 1 = omega (arith, c.if-t-gt1.false) in
     by_last (present_fields t) c.left_holds.ensures
-    (decided-true _ d.in_range.ensures d.if-not-in_range.false and eq-eqb _ _ b.if-p-ne0.false and le-leb t.blocked 1 h and tt)
+    ((sym d.in_range.ensures ∙ d.if-not-in_range.false) and eq-eqb _ _ b.if-p-ne0.false and le-leb t.blocked 1 h and tt)

@@ -17,7 +17,7 @@ use Rattle.rows.specs.Rows.{slots_at, pending_of}
 use Rattle.thread.specs.declared.Thread.{Thread}
 use Rattle.thread.specs.Thread.{is_blocked}
 use Rattle.state.specs.Sound.{server_tests, no_account_tests, account_test, present_fields, present_test}
-use Rattle.state.proofs.TestLaws.{decided-true, decided-false, all_append}
+use Rattle.state.proofs.TestLaws.{all_append}
 use Rattle.records.proofs.PolicyLaws.{policy-low, policy-sporadic}
 use Rattle.thread_sound.proofs.thread_holds.Goals as goal
 
@@ -66,7 +66,7 @@ pub returns-then-not-present_fields : goal.returns-then-not-present_fields
 returns-then-not-present_fields c =
     let a = c.args in
     let q = pending_of a.counts.now a.dues.now a.amounts.now a.i in
-    refused a.start a.time a.t q (decided-false _ c.present_fields.ensures c.if-not-present_fields.true)
+    refused a.start a.time a.t q (sym c.present_fields.ensures ∙ c.if-not-present_fields.true)
 
 pub returns-then-p-gt1 : goal.returns-then-p-gt1
 returns-then-p-gt1 c =
@@ -74,7 +74,7 @@ returns-then-p-gt1 c =
     let i = l in
     let a = i.args in
     let q = pending_of a.counts.now a.dues.now a.amounts.now a.i in
-    some a.start a.time a.t q _ (decided-true _ i.present_fields.ensures i.if-not-present_fields.false) l.if-p-gt1.true
+    some a.start a.time a.t q _ (sym i.present_fields.ensures ∙ i.if-not-present_fields.false) l.if-p-gt1.true
     (judged a.start a.time a.t a.counts.now a.dues.now a.amounts.now a.i c.sound_lent.ensures)
 
 pub returns-then-not-no_server : goal.returns-then-not-no_server
@@ -83,8 +83,8 @@ returns-then-not-no_server c =
     let i = l in
     let a = i.args in
     let q = pending_of a.counts.now a.dues.now a.amounts.now a.i in
-    none a.start a.time a.t q _ (decided-true _ i.present_fields.ensures i.if-not-present_fields.false) l.if-p-gt1.false
-    (sym (all_append (server_tests a.t.server) _ ∙ cond-false _ _ _ (decided-false _ c.no_server.ensures c.if-not-no_server.true)))
+    none a.start a.time a.t q _ (sym i.present_fields.ensures ∙ i.if-not-present_fields.false) l.if-p-gt1.false
+    (sym (all_append (server_tests a.t.server) _ ∙ cond-false _ _ _ (sym c.no_server.ensures ∙ c.if-not-no_server.true)))
 
 pub returns-then-counts-i-ne0 : goal.returns-then-counts-i-ne0
 returns-then-counts-i-ne0 c =
@@ -92,7 +92,7 @@ returns-then-counts-i-ne0 c =
     let i = l in
     let a = i.args in
     let q = pending_of a.counts.now a.dues.now a.amounts.now a.i in
-    none a.start a.time a.t q _ (decided-true _ i.present_fields.ensures i.if-not-present_fields.false) l.if-p-gt1.false
+    none a.start a.time a.t q _ (sym i.present_fields.ensures ∙ i.if-not-present_fields.false) l.if-p-gt1.false
     (sym (all-false (no_account_tests a.t.server q) 3 (ne_eqb _ _ c.if-counts-i-ne0.true)))
 
 pub returns : goal.returns
@@ -103,7 +103,7 @@ returns c =
     let i = l in
     let a = i.args in
     let q = pending_of a.counts.now a.dues.now a.amounts.now a.i in
-    none a.start a.time a.t q _ (decided-true _ i.present_fields.ensures i.if-not-present_fields.false) l.if-p-gt1.false
+    none a.start a.time a.t q _ (sym i.present_fields.ensures ∙ i.if-not-present_fields.false) l.if-p-gt1.false
     (c.clear_slots.ensures
     ∙ ap₂ (λ (ds xs : List ℕ). all (all (zeros ds) ∷ all (zeros xs) ∷ [])) (lent a.i a.dues.now) (lent a.i a.amounts.now)
-    ∙ slots a.start a.time a.t q (decided-true _ v.no_server.ensures v.if-not-no_server.false) z.if-counts-i-ne0.false)
+    ∙ slots a.start a.time a.t q (sym v.no_server.ensures ∙ v.if-not-no_server.false) z.if-counts-i-ne0.false)
