@@ -42,15 +42,15 @@ use Rattle.executive.proofs.answer_last.Given as goal
 
 -- the event is answered, and the one after it is looked for
 abbrev pub Followed : Type 0
-Followed = lts.After-following-f
+Followed = lts.After-following
 
 -- the next one begins
-abbrev pub followed : lts.After-e-1 → Followed
-followed c = c
+abbrev pub followed : lts.After-e → Followed
+followed c = c.before.before.before
 
 -- there is one
-pub one : (c : lts.After-e-1) → (followed c).following.result.more ≡ true
-one c = not-false _ c.if-not-f.false
+pub one : (c : lts.After-e) → (followed c).following.result.more ≡ true
+one c = not-false _ c.before.if-not-f.false
 
 abbrev pub invariant-loop-stand : goal.invariant-loop-stand
 invariant-loop-stand l =
