@@ -39,7 +39,6 @@ use Rattle.executive.proofs.StepLaws.{Open, Stage, unsound-is, unsound-told, arr
 use Rattle.executive.proofs.LastLaws.{At, Coming, Running, follows-as, runs-is, own-none, fits, same_left, less-left, begins, coming, before, untold, settles, passes, bounded, nexts, lasts, alone}
 use Rattle.executive.proofs.DoneLaws.{Concerns, happened-none, who-is, change-small, change-requires, set-requires, change-is}
 use Rattle.executive.proofs.DoneLaws as laws
-use Rattle.executive.proofs.answer_last.Invariants.{Followed, followed, one}
 use Rattle.executive.proofs.answer_last.Lts as lts
 use Rattle.executive.proofs.answer_last.Goals as goal
 
@@ -73,6 +72,10 @@ Topped = lts.After-wide
 -- the next moment is known
 abbrev Read : Type 0
 Read = lts.After-next_moment
+
+-- the event is answered, and the one after it is looked for
+abbrev Followed : Type 0
+Followed = lts.After-following
 
 -- the event is still to come
 abbrev Undone : Type 0
@@ -283,6 +286,14 @@ returns-then-not-f c =
           ∙ y.0,
       f.following-f.ensures.1 ∙ cond-false _ _ _ none ∙ y.1,
     )
+
+-- the next one begins
+abbrev followed : lts.After-e → Followed
+followed c = c.before.before.before
+
+-- there is one
+one : (c : lts.After-e) → (followed c).following.result.more ≡ true
+one c = not-false _ c.before.if-not-f.false
 
 pub overflow_sub-left : goal.overflow_sub-left
 overflow_sub-left c =
