@@ -14,4 +14,4 @@ pub returns : goal.returns
 returns c =
     let a = c.args in
     let y = single (whole a.c a.dues.now a.amounts.now) a.e _ 0 in
-    (c.answer_last.ensures.0 ∙ ap answer_to y, c.answer_last.ensures.1 ∙ ap numbers_of y)
+    record { amounts_after = c.answer_last.ensures.amounts_after ∙ ap answer_to y; numbers = c.answer_last.ensures.numbers ∙ ap numbers_of y }

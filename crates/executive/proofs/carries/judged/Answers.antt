@@ -1,4 +1,5 @@
 -- `executive::carries::judged` meets its contract.
+use borrow.Author.Tests.{not-true, not-false}
 use Prim.Native.Nat.{ℕ, ◌<◌}
 use mathlib.Core.Bool.{false}
 use mathlib.Core.Path.{sym, ap, ◌∙◌}
@@ -13,10 +14,10 @@ use Rattle.executive.proofs.carries.judged.Goals.{After-wide-i}
 pub returns-then-not-stand : goal.returns-then-not-stand
 returns-then-not-stand c =
     let a = c.args in
-    sym (cond-false a.stand.judging _ (after_moments a.stand) c.if-not-stand.true)
+    sym (cond-false a.stand.judging _ (after_moments a.stand) (not-true _ c.if-not-stand.true))
 
 there : (c : After-wide-i) → c.wide-i.result < 32
-there c = omega (arith, c.wide-i.ensures, c.requires c.if-not-stand.false)
+there c = omega (arith, c.wide-i.ensures, c.requires (not-false _ c.if-not-stand.false))
 
 pub offset_bounds-s-i : goal.offset_bounds-s-i
 offset_bounds-s-i c = omega (arith, there (goal.at.offset_bounds-s-i c).After-wide-i)
@@ -32,4 +33,4 @@ returns c =
     let a = c.args in
     c.settled.ensures
     ∙ ap (λ (k : ℕ). settled_of k false) (c.carry_status.ensures ∙ ap (λ (i : ℕ). carry_status a.e (get_or a.s.threads i no_thread) (get_or a.s.counts i 0)) c.wide-i.ensures)
-    ∙ sym (cond-true a.stand.judging _ (after_moments a.stand) c.if-not-stand.false)
+    ∙ sym (cond-true a.stand.judging _ (after_moments a.stand) (not-false _ c.if-not-stand.false))
