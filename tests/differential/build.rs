@@ -1,10 +1,8 @@
-// Links the static libraries of the repository, each written by `rt staticlib NAME`.
+// Links the static libraries of the repository, each written by `rt lib` in its crate's folder (`tests/libraries`).
 use std::path::Path;
 
 fn main() {
     let here = std::env::var("CARGO_MANIFEST_DIR").expect("cargo names the package's folder");
-    let folder = Path::new(&here).join("../../target/staticlib");
-    println!("cargo:rustc-link-search=native={}", folder.display());
     for name in [
         "board",
         "board_opening",
@@ -12,21 +10,23 @@ fn main() {
         "board_search",
         "board_bound",
         "board_shares",
-        "share_listing",
+        "share_listing_c",
         "board_trace",
         "board_listing",
         "board_replay",
         "board_text",
         "board_check",
     ] {
+        let folder = Path::new(&here).join(format!("../../crates/{name}/out"));
         let archive = folder.join(format!("lib{name}.a"));
         if !archive.exists() {
             panic!(
-                "{} is missing: run `rt staticlib {name}` first",
+                "{} is missing: run `tests/libraries {name}` first",
                 archive.display()
             );
         }
         println!("cargo:rerun-if-changed={}", archive.display());
+        println!("cargo:rustc-link-search=native={}", folder.display());
         println!("cargo:rustc-link-lib=static={name}");
     }
 }

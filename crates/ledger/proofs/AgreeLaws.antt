@@ -20,7 +20,7 @@ use Rattle.account.proofs.ReturnLaws.{due-some}
 use Rattle.account_laws.proofs.SoundLaws.{AccountSound, made}
 use Rattle.reports.specs.Steps.{Step}
 use Rattle.reports.specs.Steps.Step.{ran, limit, effect}
-use Rattle.ledger.specs.Ledger.{ran_in, back_in, sum_of, Ledger, empty, enter_effect, entered}
+use Rattle.ledger.specs.Ledger.{ran_in, back_in, sum_of, Ledger, empty, enter, enter_effect, entered}
 use Rattle.ledger.proofs.StepRules.{Property, StepRules, CarryRule}
 use Rattle.ledger.proofs.LedgerLaws.{Matches, charge-matches, activate-matches, carry-matches, once-matches, later-matches, first_matches, first-flow}
 
@@ -30,7 +30,7 @@ pub record Agrees (p : Parameters) (a : Account) (xs : List Step) : Type 0 where
 
 entered-more : (l : Ledger) (xs ys : List Step) → entered l (xs ++ ys) ≡ entered (entered l xs) ys
 entered-more l [] ys = refl
-entered-more l (x ∷ xs) ys = entered-more _ xs ys
+entered-more l (x ∷ xs) ys = entered-more (enter l x) xs ys
 
 pub sum_more : (f : Step → ℕ) (xs ys : List Step) → sum_of f (xs ++ ys) ≡ sum_of f xs + sum_of f ys
 sum_more f [] ys = omega arith

@@ -1,13 +1,12 @@
 -- How long a line's numbers can be, and lines that are put one after another.
 use Prim.Native.Nat.{ℕ, ◌+◌, ◌≤◌}
 use mathlib.Core.List.{List, [], ◌∷◌, ◌++◌}
-use mathlib.Core.Path.{◌≡◌, sym, subst, subst⁻¹}
+use mathlib.Core.Path.{◌≡◌, refl, sym, subst, subst⁻¹}
 use native.Mathlib.Omega.{arith}
 use lib.ListN.{length, length-append}
 use mir.Val.{Fits}
 use mir.Syntax.{w64}
-use types.Run.{OneOf, miss}
-use denote.Enum.Declared.{tag_of}
+use lib.Ieee as Ieee
 use Rattle.text.specs.Placed.{Put}
 use Rattle.text.specs.Fields.{field, space, newline}
 use Rattle.text.proofs.FieldLaws.{long-length}
@@ -17,11 +16,10 @@ use Rattle.trace.proofs.RunLaws.{joined-next}
 use Rattle.state.specs.declared.State.{State}
 use Rattle.shares.specs.declared.Share.{Share}
 use Rattle.shares.specs.declared.Share.TheVariants as share
-use Rattle.shares.specs.contracts.Share as the_share
 use Rattle.shares.specs.Shares.{elapsed, total_at, share_of}
 use Rattle.share_summary.specs.declared.Summarized.{Summarized}
 use Rattle.share_summary.specs.declared.Summarized.TheVariants as summarized
-use Rattle.share_summary.specs.contracts.Summarized as the_summary
+use Rattle.share_summary.specs.declared.Summary.{Summary}
 use Rattle.share_summary.specs.Summaries.{summarized_of}
 use Rattle.share_lines.specs.Lines.{share_word, none_word, share_text, share_line, share_lines, summary_lines, shares_in}
 use Rattle.share_lines.specs.Bounds.{numbers_most, ShownShare, ShownSummary}
@@ -48,15 +46,15 @@ module _ {o o' : List ℕ} {at r : ℕ} where
   same-summary e p = subst⁻¹ (λ (z : Summarized). Put o at (summary_lines z) o' r) e p
 
   -- what has a text and is no share is that there is none
-  pub none_end : (x : Share) → OneOf (1 ∷ 2 ∷ []) (tag_of the_share.the_type x) → ShownShare x
+  pub none_end : (x : Share) → ((y : Ieee.Float) → x ≡ share.Of y → ⊥) → ShownShare x
       → Put o at (none_word ++ (newline ∷ [])) o' r → Put o at (share_text x ++ (newline ∷ [])) o' r
-  none_end (share.Of x) k h p = absurd (miss (1 ∷ 2 ∷ []) 0 tt k)
+  none_end (share.Of x) k h p = absurd (k x refl)
   none_end share.NoTime k h p = p
   none_end (share.Refused n) k h p = absurd h
 
-pub no_lines : (o : List ℕ) (at : ℕ) (x : Summarized) → OneOf (1 ∷ 2 ∷ []) (tag_of the_summary.the_type x) → ShownSummary x → Put o at (summary_lines x) o at
+pub no_lines : (o : List ℕ) (at : ℕ) (x : Summarized) → ((y : Summary) → x ≡ summarized.Of y → ⊥) → ShownSummary x → Put o at (summary_lines x) o at
 unfolding summary_lines
-no_lines o at (summarized.Of s) k h = absurd (miss (1 ∷ 2 ∷ []) 0 tt k)
+no_lines o at (summarized.Of s) k h = absurd (k s refl)
 no_lines o at summarized.NoTime k h = nothing o at
 no_lines o at (summarized.Refused n) k h = absurd h
 

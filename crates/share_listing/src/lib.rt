@@ -1,4 +1,4 @@
-// The shares at the end of a trace's replay, as text: for our program, and as a static library's exported function for other languages.
+// The shares at the end of a trace's replay, as text: for our program, and below `share_listing_c`.
 #![tactic(auto)]
 
 ghost use Rattle.std.specs.Prelude.{◌≤◌, replicate};
@@ -11,8 +11,7 @@ mod ending; // ending.rt: the state that a file's last event left
 pub const LARGEST: usize = 4096;
 
 // Puts the lines of a file at a buffer's start, with zeros after them, whatever it held; how many bytes they are.
-#[unsafe(no_mangle)]
-pub extern "C" fn thawonlai_share_listing(file: &[u8], out: &mut [u8; LARGEST]) -> usize
+pub fn thawonlai_share_listing(file: &[u8], out: &mut [u8; LARGEST]) -> usize
     ensures put { Put (replicate largest 0) 0 (share_listing file.now) out.new result }
     ensures within { result ≤ largest }
 {

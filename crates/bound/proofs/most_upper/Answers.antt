@@ -1,18 +1,17 @@
 -- `bound::most_upper` meets its contract.
 use Prim.Native.Nat.{◌+◌, ◌*◌, ◌<◌, ◌≤◌}
+use mathlib.Core.Bool.{true}
+use mathlib.Core.Path.{◌≡◌}
 use native.Mathlib.Omega.{arith}
 use Rattle.records.specs.declared.Parameters.{Parameters}
 use Rattle.bound.proofs.MostLaws.{whole-within, most-even, most-odd, most-all, Budget, budget}
-use Rattle.bound.proofs.most_upper.Lts as lts
+use Rattle.bound.specs.Most.{sporadic_thread}
 use Rattle.bound.proofs.most_upper.Goals as goal
 
 -- the stretch and the two budgets that are run in it
-module _ (s : lts.Start) where
-  abbrev p : Parameters
-  p = s.args.p
-
+module _ (p : Parameters) (q : sporadic_thread p ≡ true) where
   range : Budget p
-  range = budget p s.pre
+  range = budget p q
 
   some : 0 < p.period + p.budget
   some = omega (arith, range)
@@ -21,31 +20,31 @@ module _ (s : lts.Start) where
   few = omega (arith, range)
 
 pub overflow_add-stretch : goal.overflow_add-stretch
-overflow_add-stretch c = omega (arith, range c)
+overflow_add-stretch c = omega (arith, range c.args.p c.requires)
 
 pub overflow_mul-twice : goal.overflow_mul-twice
-overflow_mul-twice c = omega (arith, range c)
+overflow_mul-twice c = omega (arith, range c.args.p c.requires)
 
 pub nonzero_div-whole : goal.nonzero_div-whole
-nonzero_div-whole c = some c
+nonzero_div-whole c = some c.args.p c.requires
 
 pub overflow_mul-whole : goal.overflow_mul-whole
-overflow_mul-whole c = let s = c in omega (arith, whole-within s.args.length _ _ (some s) (few s))
+overflow_mul-whole c = omega (arith, whole-within c.args.length _ _ (some c.args.p c.requires) (few c.args.p c.requires))
 
 pub nonzero_rem-length : goal.nonzero_rem-length
-nonzero_rem-length c = some c
+nonzero_rem-length c = some c.args.p c.requires
 
 pub returns-then-length-stretch-eq0 : goal.returns-then-length-stretch-eq0
-returns-then-length-stretch-eq0 c = let s = c in most-even s.args.length _ _ (some s) (few s) c.if-length-stretch-eq0.true
+returns-then-length-stretch-eq0 c = most-even c.args.length _ _ (some c.args.p c.requires) (few c.args.p c.requires) c.if-length-stretch-eq0.true
 
 pub overflow_sub-length : goal.overflow_sub-length
-overflow_sub-length c = let s = c in whole-within s.args.length _ _ (some s) (few s)
+overflow_sub-length c = whole-within c.args.length _ _ (some c.args.p c.requires) (few c.args.p c.requires)
 
 pub overflow_add-result : goal.overflow_add-result
 overflow_add-result c = omega arith
 
 pub returns-then-twice-length : goal.returns-then-twice-length
-returns-then-twice-length c = let s = c in most-odd s.args.length _ _ (some s) (few s) c.if-length-stretch-eq0.false c.if-twice-length.true
+returns-then-twice-length c = most-odd c.args.length _ _ (some c.args.p c.requires) (few c.args.p c.requires) c.if-length-stretch-eq0.false c.if-twice-length.true
 
 pub returns : goal.returns
-returns c = let s = c in most-all s.args.length _ _ (some s) (few s) c.if-length-stretch-eq0.false c.if-twice-length.false
+returns c = most-all c.args.length _ _ (some c.args.p c.requires) (few c.args.p c.requires) c.if-length-stretch-eq0.false c.if-twice-length.false

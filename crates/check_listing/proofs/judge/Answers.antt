@@ -16,10 +16,6 @@ use Rattle.check_listing.proofs.judge.Goals as goal
 numbered : (v w : Verdict) (x : Checked) → x ≡ checked_of v → v ≡ w → x.verdict ≡ (checked_of w).verdict
 numbered v w x e f = ap (λ (y : Checked). y.verdict) (e ∙ ap checked_of f)
 
--- src/main.rt:49:18
-slice-aggregate-fail : tie.Need-slice-aggregate-fail
-slice-aggregate-fail c = search rules
-
 -- src/main.rt:44:1
 pub returns-then-checked-eq1 : goal.returns-then-checked-eq1
 returns-then-checked-eq1 c = λ h. numbered _ _ _ c.checked_of-checked.ensures c.verdict_of-v.ensures

@@ -16,6 +16,3 @@ slice_bounds-ours-end c = (listed-part _ _ c.listing-listed.new.1.0 _ c.listing-
 slice-aggregate-show-2 : tie.Need-slice-aggregate-show-2
 slice-aggregate-show-2 c = (listed-part _ _ c.listing-listed.new.1.0 _ c.listing-listed.ensures.0 c.listing-listed.auto.out.0).1
 
--- src/main.rt:39:17
-slice-aggregate-show-3 : tie.Need-slice-aggregate-show-3
-slice-aggregate-show-3 c = search rules

@@ -9,8 +9,8 @@ use lib.Count.{count_trailing_zeros, trailing_of_zero}
 use Rattle.due_search.specs.Word.{PendingWord}
 use Rattle.due_search.proofs.DigitLaws.{set-within}
 use Rattle.due_search.proofs.SearchLaws.{Seen, none_found, seen_first, seen_next, seen_all, seen-enough}
-use Rattle.due_search.proofs.next_in_word.Lts as lts
 use Rattle.due_search.proofs.next_in_word.Goals as goal
+use Rattle.due_search.proofs.next_in_word.Goals.{After-lowest-first, After-lowest-k, After-without_lowest-rest-in-loop-best}
 
 -- a word of 0 names no thread
 no-thread : (word : ℕ) → word ≡ 0 → 32 ≤ count_trailing_zeros 32 word
@@ -28,13 +28,13 @@ pub without_lowest-rest-requires : goal.without_lowest-rest-requires
 without_lowest-rest-requires c = omega (arith, c.if-word-eq0.false)
 
 -- the first thread
-first_small : (c : lts.After-lowest) → c.lowest-first.result < 32
+first_small : (c : After-lowest-first) → c.lowest-first.result < 32
 first_small c =
     let b = c in
     omega (arith, c.lowest-first.ensures, set-within 32 b.args.word (omega (arith, b.ranges.word)) (omega (arith, c.if-word-eq0.false)))
 
 pub first_due-requires : goal.first_due-requires
-first_due-requires c = first_small c
+first_due-requires c = first_small (goal.at.first_due-requires c).After-lowest-first
 
 pub loop-best-init : goal.loop-best-init
 loop-best-init c =
@@ -44,7 +44,7 @@ loop-best-init c =
     let a = b.args in (
       omega (arith, w.without_lowest-rest.ensures, and_le_r a.word (a.word - 1), b.ranges.word),
       λ counts p. rw w.without_lowest-rest.ensures
-          (seen_first counts a.dues.now 32 (omega arith) a.word f.lowest-first.result c.first_due.result p f.lowest-first.ensures (first_small f) c.first_due.ensures),
+          (seen_first counts a.dues.now 32 (omega arith) a.word f.lowest-first.result c.first_due.result p f.lowest-first.ensures (first_small (goal.at.loop-best-init c).After-lowest-first) c.first_due.ensures),
     )
 
 pub returns-then-rest-eq0 : goal.returns-then-rest-eq0
@@ -60,25 +60,25 @@ pub without_lowest-rest-requires-in-loop-best : goal.without_lowest-rest-require
 without_lowest-rest-requires-in-loop-best c = omega (arith, c.if-rest-eq0.false)
 
 -- the next thread
-next_small : (c : lts.After-lowest2) → c.lowest-k.result < 32
+next_small : (c : After-lowest-k) → c.lowest-k.result < 32
 next_small c =
     let l = c in
     omega (arith, c.lowest-k.ensures, set-within 32 l.loop-best.rest l.loop-best.invariant.0 (omega (arith, c.if-rest-eq0.false)))
 
 pub first_due-requires-in-loop-best : goal.first_due-requires-in-loop-best
-first_due-requires-in-loop-best c = next_small c
+first_due-requires-in-loop-best c = next_small (goal.at.first_due-requires-in-loop-best c).After-lowest-k
 
 pub lesser_of-best-requires : goal.lesser_of-best-requires
 lesser_of-best-requires c = tt
 
 -- the rest is less without it
-falls : (c : lts.After-without_lowest2) → c.without_lowest-rest-in-loop-best.result < c.loop-best.rest
+falls : (c : After-without_lowest-rest-in-loop-best) → c.without_lowest-rest-in-loop-best.result < c.loop-best.rest
 falls c =
     let r = c.loop-best.rest in
     omega (arith, c.without_lowest-rest-in-loop-best.ensures, and_le_r r (r - 1), c.if-rest-eq0.false)
 
 pub loop-best-smaller : goal.loop-best-smaller
-loop-best-smaller c = falls c
+loop-best-smaller c = falls (goal.at.loop-best-smaller c).After-without_lowest-rest-in-loop-best
 
 pub loop-best-preserved : goal.loop-best-preserved
 loop-best-preserved c =
@@ -86,10 +86,10 @@ loop-best-preserved c =
     let k = w in
     let l = k in
     let a = l.args in (
-      omega (arith, falls w, l.loop-best.invariant.0),
+      omega (arith, falls (goal.at.loop-best-preserved c).After-without_lowest-rest-in-loop-best, l.loop-best.invariant.0),
       λ counts p. rw w.without_lowest-rest-in-loop-best.ensures
           (seen_next counts a.dues.now 32 (omega arith) l.loop-best.rest l.loop-best.best (l.loop-best.invariant.1 counts p) k.lowest-k.result
-          c.first_due-in-loop-best.result c.lesser_of-best.result k.lowest-k.ensures (next_small k) c.first_due-in-loop-best.ensures c.lesser_of-best.ensures),
+          c.first_due-in-loop-best.result c.lesser_of-best.result k.lowest-k.ensures (next_small (goal.at.loop-best-preserved c).After-lowest-k) c.first_due-in-loop-best.ensures c.lesser_of-best.ensures),
     )
 
 pub returns : goal.returns

@@ -11,4 +11,4 @@ pub tell_back-requires : goal.tell_back-requires
 tell_back-requires c = let b = c in (b.requires.0, b.requires.3)
 
 pub returns : goal.returns
-returns c = (c.remove-IsFirst.ensures, c.remove_first-2.ensures, c.tell_back.ensures)
+returns c = (c.remove_first.ensures, c.remove_first-2.ensures, c.tell_back.ensures)

@@ -9,4 +9,4 @@ pub returns-then-p-eq0 : goal.returns-then-p-eq0
 returns-then-p-eq0 c = sym (cond-true _ _ _ (eq-eqb _ _ c.if-p-eq0.true))
 
 pub returns : goal.returns
-returns c = c.«limit-of».ensures ∙ sym (cond-false _ _ _ (ne_eqb _ _ c.if-p-eq0.false))
+returns c = c.limit_of.ensures ∙ sym (cond-false _ _ _ (ne_eqb _ _ c.if-p-eq0.false))

@@ -14,5 +14,5 @@ append-w-requires c =
     let s = c in
     let a = s.args in
     let place : ℕ → ℕ = λ i. get_or a.c.places i 0 in
-    let h = sound-true place a.c.word a.c.lists (sym s.sound.ensures ∙ not-false _ c.if-not-sound.false) in
+    let h = sound-true place a.c.word a.c.lists (sym s.sound.ensures ∙ c.if-not-sound.false) in
     joinable place a.c.word a.c.lists h a.p (omega arith) (omega arith) a.i (omega arith) (λ e. omega arith)

@@ -14,7 +14,7 @@ remove-w-requires c =
     let s = c in
     let a = s.args in
     let place : ℕ → ℕ = λ i. get_or a.c.places i 0 in
-    let h = sound-true place a.c.word a.c.lists (sym s.sound.ensures ∙ not-false _ c.if-not-sound.false) in
+    let h = sound-true place a.c.word a.c.lists (sym s.sound.ensures ∙ c.if-not-sound.false) in
     let m : a.i < 32 = omega arith in
     let lo : 1 ≤ place a.i = omega (arith, c.if-p-eq0.false) in
     leavable place a.c.word a.c.lists h (place a.i) lo (h.rows.places a.i m) a.i m refl

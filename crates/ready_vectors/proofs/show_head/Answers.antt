@@ -8,17 +8,11 @@ use Rattle.ready.proofs.SoundLaws.{highest-sound}
 use borrow.Author.Rules.{rules}
 use Rattle.ready_vectors.proofs.show_head.Goals as goal
 
-slice-aggregate-text : tie.Need-slice-aggregate-text
-slice-aggregate-text c = search rules
-
-slice-aggregate-text-2 : tie.Need-slice-aggregate-text-2
-slice-aggregate-text-2 c = search rules
-
 pub head-requires : goal.head-requires
 head-requires c =
     let s = c in
     let g = s in
     let a = g.args in
     let place : ℕ → ℕ = λ i. get_or a.c.places i 0 in
-    let h = sound-true place a.c.word a.c.lists (sym s.sound.ensures ∙ not-false _ c.if-not-sound.false) in
+    let h = sound-true place a.c.word a.c.lists (sym s.sound.ensures ∙ c.if-not-sound.false) in
     rw g.highest-p.ensures (highest-sound place a.c.word a.c.lists h s.if-word-eq0.false).held

@@ -18,6 +18,3 @@ slice_bounds-out-end c = (listed-part _ _ c.listing-listed.new.1.0 _ c.listing-l
 pub slice_bounds-write_all-end : goal.slice_bounds-write_all-end
 slice_bounds-write_all-end c = (listed-part _ _ c.listing-listed.new.1.0 _ c.listing-listed.ensures.0 c.listing-listed.auto.out.0).1
 
--- src/main.rt:26:18
-slice-aggregate-fail : tie.Need-slice-aggregate-fail
-slice-aggregate-fail c = search rules

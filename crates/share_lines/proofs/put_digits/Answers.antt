@@ -2,10 +2,6 @@
 use mathlib.Core.Path.{◌∙◌}
 use native.Mathlib.Omega.{arith}
 use Rattle.text.proofs.PlacedLaws.{then}
-use Rattle.share_lines.proofs.put_digits.Reads as reads
-use Rattle.share_lines.proofs.put_digits.Lts as lts
-use Rattle.decimals.proofs.put_float.Reads as put-float-reads
-use Rattle.text.proofs.put_byte.Reads as put-byte-reads
 use Rattle.share_lines.proofs.put_digits.Goals as goal
 
 pub put_float-at-requires : goal.put_float-at-requires
@@ -17,7 +13,7 @@ pub put_byte-requires : goal.put_byte-requires
 put_byte-requires c =
     let p = c.put_float-at in
     let s = c in
-    omega (arith, p.ensures.1, p.auto.out, s.requires.1)
+    omega (arith, p.ensures.upper_bound, p.auto.out, s.requires.1)
 
 pub shape_of-out : goal.shape_of-out
 shape_of-out c = c.put_byte.auto.out ∙ c.put_float-at.auto.out
@@ -27,4 +23,4 @@ returns c =
     let p = c.put_float-at in
     let s = c in
     let q = c.put_byte in
-    (then (omega (arith, p.ensures.0.next, p.ensures.1, s.requires.1)) p.ensures.0 q.ensures, omega (arith, q.ensures.next, p.ensures.1))
+    record { put = then (omega (arith, p.ensures.put.next, p.ensures.upper_bound, s.requires.1)) p.ensures.put q.ensures; upper_bound = omega (arith, q.ensures.next, p.ensures.upper_bound) }

@@ -5,11 +5,6 @@ use Rattle.text.specs.Fields.{space}
 use Rattle.text.proofs.PlacedLaws.{after}
 use Rattle.share_lines.specs.Lines.{leader_line}
 use Rattle.text.proofs.FieldLaws.{byte-length}
-use Rattle.share_lines.proofs.put_leader.Reads as reads
-use Rattle.share_lines.proofs.put_leader.Lts as lts
-use Rattle.share_lines.proofs.put_digits.Reads as put-digits-reads
-use Rattle.text_fields.proofs.put_field.Reads as put-field-reads
-use Rattle.text.proofs.put_word.Reads as put-word-reads
 use Rattle.share_lines.proofs.put_leader.Goals as goal
 
 pub put_word-at-requires : goal.put_word-at-requires
@@ -38,7 +33,7 @@ returns c =
     let f = c.put_field-at in
     let w = c.put_word-at in
     let s = c in
-    let l = byte-length space s.ranges.thread in (
-      after (omega (arith, s.requires.1, s.requires.2, f.ensures.next, w.ensures.next)) (after (omega (arith, s.requires.1, s.requires.2, w.ensures.next)) w.ensures f.ensures) e.ensures.0,
-      omega (arith, e.ensures.1, s.requires.1, f.ensures.next, w.ensures.next),
-    )
+    let l = byte-length space s.ranges.thread in record {
+      put = after (omega (arith, s.requires.1, s.requires.2, f.ensures.next, w.ensures.next)) (after (omega (arith, s.requires.1, s.requires.2, w.ensures.next)) w.ensures f.ensures) e.ensures.put;
+      upper_bound = omega (arith, e.ensures.upper_bound, s.requires.1, f.ensures.next, w.ensures.next);
+    }

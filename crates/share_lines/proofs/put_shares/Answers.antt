@@ -5,17 +5,7 @@ use Rattle.state.specs.declared.State.{State}
 use Rattle.state.specs.Updates.{whole}
 use Rattle.share_lines.proofs.ShownLaws.{summary-shown-as}
 use Rattle.share_lines.proofs.LineLaws.{shares-after}
-use Rattle.share_lines.proofs.put_shares.Reads as reads
-use Rattle.share_lines.proofs.put_shares.Lts as lts
-use Rattle.share_lines.proofs.put_summary.Reads as put-summary-reads
-use Rattle.share_lines.proofs.put_threads.Reads as put-threads-reads
-use Rattle.share_summary.proofs.summary_of.Reads as summary-of-reads
-use Rattle.share_lines.proofs.put_shares.Lts as lts
 use Rattle.share_lines.proofs.put_shares.Goals as goal
-
--- the state that is given
-abbrev state_given : lts.Start → State
-state_given s = whole s.args.c s.args.dues.now s.args.amounts.now
 
 pub put_threads-at-requires : goal.put_threads-at-requires
 put_threads-at-requires c =
@@ -29,8 +19,8 @@ pub put_summary-requires : goal.put_summary-requires
 put_summary-requires c =
     let s = c in
     let t = c.put_threads-at in (
-      summary-shown-as (state_given s) s.requires.0 c.summary_of-x.result c.summary_of-x.ensures,
-      omega (arith, s.requires.1, t.ensures.1, t.auto.out),
+      summary-shown-as (whole c.args.c c.args.dues.now c.args.amounts.now) s.requires.0 c.summary_of-x.result c.summary_of-x.ensures,
+      omega (arith, s.requires.1, t.ensures.upper_bound, t.auto.out),
     )
 
 pub shape_of-out : goal.shape_of-out
@@ -40,7 +30,7 @@ pub returns : goal.returns
 returns c =
     let s = c in
     let t = c.put_threads-at in
-    let p = c.put_summary in (
-      shares-after (state_given s) c.summary_of-x.result (omega (arith, s.requires.1, t.ensures.1)) t.ensures.0 c.summary_of-x.ensures p.ensures.0,
-      omega (arith, p.ensures.1, t.ensures.1),
-    )
+    let p = c.put_summary in record {
+      put = shares-after (whole c.args.c c.args.dues.now c.args.amounts.now) c.summary_of-x.result (omega (arith, s.requires.1, t.ensures.upper_bound)) t.ensures.put c.summary_of-x.ensures p.ensures.put;
+      upper_bound = omega (arith, p.ensures.upper_bound, t.ensures.upper_bound);
+    }

@@ -6,26 +6,23 @@ use Rattle.text.proofs.PlacedLaws.{after}
 use Rattle.share_lines.specs.Lines.{summary_lines}
 use Rattle.share_lines.specs.Bounds.{ShownSummary}
 use Rattle.share_lines.proofs.LineLaws.{same-summary, no_lines}
-use Rattle.share_lines.proofs.put_summary.Reads as reads
-use Rattle.share_lines.proofs.put_summary.Lts as lts
-use Rattle.share_lines.proofs.put_leader.Reads as put-leader-reads
 use Rattle.share_lines.proofs.put_summary.Goals as goal
 
 pub returns-in_default : goal.returns-in_default
 returns-in_default c =
     let s = c in
-    (no_lines _ _ s.args.x c.in_default.keys2 s.requires.0, omega arith)
+    record { put = no_lines _ _ s.args.x c.in_default.not-Of s.requires.0; upper_bound = omega arith }
 
 pub put_leader-at-requires : goal.put_leader-at-requires
 put_leader-at-requires c =
     let s = c in
-    ((subst ShownSummary c.x-1.given.1 s.requires.0).0, omega arith, omega (arith, s.requires.1))
+    ((subst ShownSummary c.in-Of.is s.requires.0).0, omega arith, omega (arith, s.requires.1))
 
 pub put_leader-requires : goal.put_leader-requires
 put_leader-requires c =
     let p = c.put_leader-at in
     let s = c in
-    ((subst ShownSummary c.x-1.given.1 s.requires.0).1, omega arith, omega (arith, s.requires.1, p.ensures.1, p.auto.out))
+    ((subst ShownSummary c.in-Of.is s.requires.0).1, omega arith, omega (arith, s.requires.1, p.ensures.upper_bound, p.auto.out))
 
 pub shape_of-out : goal.shape_of-out
 shape_of-out c = c.put_leader.auto.out ∙ c.put_leader-at.auto.out
@@ -36,4 +33,4 @@ returns c =
     let p = c.put_leader-at in
     let q = c.put_leader in
     let s = c in
-    (same-summary c.x-1.given.1 (after (omega (arith, p.ensures.1, s.requires.1)) p.ensures.0 q.ensures.0), omega (arith, q.ensures.1, p.ensures.1))
+    record { put = same-summary c.in-Of.is (after (omega (arith, p.ensures.upper_bound, s.requires.1)) p.ensures.put q.ensures.put); upper_bound = omega (arith, q.ensures.upper_bound, p.ensures.upper_bound) }

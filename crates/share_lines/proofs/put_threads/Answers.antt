@@ -11,40 +11,28 @@ use Rattle.share_lines.specs.Lines.{share_lines}
 use Rattle.share_lines.specs.Bounds.{share_line_most}
 use Rattle.share_lines.proofs.ShownLaws.{share-shown-as}
 use Rattle.share_lines.proofs.LineLaws.{lines_none, lines_next}
-use Rattle.share_lines.proofs.put_threads.Reads as reads
-use Rattle.share_lines.proofs.put_threads.Lts as lts
-use Rattle.share_lines.proofs.put_line.Reads as put-line-reads
-use Rattle.shares.proofs.share_of.Reads as share-of-reads
-use Rattle.share_lines.proofs.put_threads.Lts as lts
 use Rattle.share_lines.proofs.put_threads.Goals as goal
 
--- the state that is given is sound
-abbrev state_given : lts.Start → State
-state_given s = whole s.args.t3 s.args.dues.now s.args.amounts.now
-
-sound-times : (s : lts.Start) → Times (state_given s) 0
-sound-times s = times (state_given s) 0 s.requires.0
-
 pub overflow_cast-n : goal.overflow_cast-n
-overflow_cast-n c = omega (arith, (sound-times c).few)
+overflow_cast-n c = omega (arith, (times (whole c.args.c c.args.dues.now c.args.amounts.now) 0 c.requires.0).few)
 
 pub overflow_sub-elapsed : goal.overflow_sub-elapsed
-overflow_sub-elapsed c = (sound-times c).order
+overflow_sub-elapsed c = (times (whole c.args.c c.args.dues.now c.args.amounts.now) 0 c.requires.0).order
 
 pub loop-i-init : goal.loop-i-init
 loop-i-init c = (omega arith, refl, omega arith, lines_none _ _ _)
 
 pub overflow_cast-i : goal.overflow_cast-i
-overflow_cast-i c = omega (arith, (sound-times c).few)
+overflow_cast-i c = omega (arith, (times (whole c.args.c c.args.dues.now c.args.amounts.now) 0 c.requires.0).few)
 
 pub share_of-x-requires : goal.share_of-x-requires
 share_of-x-requires c = tt
 
 pub offset_bounds-c-i : goal.offset_bounds-c-i
-offset_bounds-c-i c = omega (arith, (sound-times c).few)
+offset_bounds-c-i c = omega (arith, (times (whole c.args.c c.args.dues.now c.args.amounts.now) 0 c.requires.0).few)
 
 pub bounds-c-i : goal.bounds-c-i
-bounds-c-i c = omega (arith, (sound-times c).few)
+bounds-c-i c = omega (arith, (times (whole c.args.c c.args.dues.now c.args.amounts.now) 0 c.requires.0).few)
 
 pub put_line-at-requires : goal.put_line-at-requires
 put_line-at-requires c =
@@ -52,8 +40,8 @@ put_line-at-requires c =
     let w = c.loop-i in
     let k = c.loop-i-test.true in
     let x = c.share_of-x in (
-      share-shown-as (state_given s) s.requires.0 w.i k x.result x.ensures,
-      omega (arith, s.requires.1, w.invariant.1, w.invariant.2, k, (sound-times s).few),
+      share-shown-as (whole c.args.c c.args.dues.now c.args.amounts.now) s.requires.0 w.i k x.result x.ensures,
+      omega (arith, s.requires.1, w.invariant.1, w.invariant.2, k, (times (whole c.args.c c.args.dues.now c.args.amounts.now) 0 c.requires.0).few),
     )
 
 pub overflow_add-i : goal.overflow_add-i
@@ -71,8 +59,8 @@ loop-i-preserved c =
     let s = c in (
       omega arith,
       p.auto.out ∙ w.invariant.1,
-      omega (arith, w.invariant.2, p.ensures.1),
-      lines_next (state_given s) w.i x.result (omega (arith, s.requires.1, w.invariant.2, k, (sound-times s).few)) w.invariant.3 x.ensures p.ensures.0,
+      omega (arith, w.invariant.2, p.ensures.upper_bound),
+      lines_next (whole c.args.c c.args.dues.now c.args.amounts.now) w.i x.result (omega (arith, s.requires.1, w.invariant.2, k, (times (whole c.args.c c.args.dues.now c.args.amounts.now) 0 c.requires.0).few)) w.invariant.3 x.ensures p.ensures.put,
     )
 
 pub shape_of-out : goal.shape_of-out
@@ -83,4 +71,4 @@ returns c =
     let w = c.loop-i in
     let s = c in
     let k : w.i ≡ s.args.c.header.n = omega arith in
-    (rw k at w.invariant.3, omega (arith, w.invariant.0, w.invariant.2, (sound-times s).few))
+    record { put = rw k at w.invariant.3; upper_bound = omega (arith, w.invariant.0, w.invariant.2, (times (whole c.args.c c.args.dues.now c.args.amounts.now) 0 c.requires.0).few) }

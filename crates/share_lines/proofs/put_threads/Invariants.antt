@@ -11,10 +11,6 @@ use Rattle.share_lines.specs.Lines.{share_lines}
 use Rattle.share_lines.specs.Bounds.{share_line_most}
 use Rattle.share_lines.proofs.ShownLaws.{share-shown-as}
 use Rattle.share_lines.proofs.LineLaws.{lines_none, lines_next}
-use Rattle.share_lines.proofs.put_threads.Reads as reads
-use Rattle.share_lines.proofs.put_threads.Lts as lts
-use Rattle.share_lines.proofs.put_line.Reads as put-line-reads
-use Rattle.shares.proofs.share_of.Reads as share-of-reads
 use Rattle.share_lines.proofs.put_threads.Given as goal
 
 abbrev pub invariant-loop-i : goal.invariant-loop-i

@@ -1,7 +1,6 @@
 -- `share_summary::leading` meets its contract: of the threads so far the first with the most and the first with the least run time.
 use Prim.Native.Nat.{ℕ, ◌+◌, ◌-◌, ◌≤◌}
 use mathlib.Core.Bool.{cond}
-use mathlib.Core.Logic.{inl, inr}
 use mathlib.Core.Path.{◌≡◌, refl, sym, ap, ◌∙◌}
 use native.Mathlib.Numerals.{add-one}
 use native.Mathlib.Omega.{arith}
@@ -28,13 +27,13 @@ loop-i-preserved c =
     let h = leader_at ts w.i in
     let more : m.most ≡ cond (ltb w.most.total h.total) h w.most =
     elim m.branch [
-      | inl p ↦ p.1 ∙ sym (cond-true _ h w.most (lt-ltb _ _ p.0.taken))
-      | inr p ↦ p.1 ∙ sym (cond-false _ h w.most (le-ltb _ _ p.0.left))
+      | goal.then-most-here p ↦ p.most-is ∙ sym (cond-true _ h w.most (lt-ltb _ _ p.if-most-here.true))
+      | goal.else-most-here p ↦ p.most-is ∙ sym (cond-false _ h w.most (le-ltb _ _ p.if-most-here.false))
     ] in
     let less : l.least ≡ cond (ltb h.total w.least.total) h w.least =
     elim l.branch [
-      | inl p ↦ p.1 ∙ sym (cond-true _ h w.least (lt-ltb _ _ p.0.taken))
-      | inr p ↦ p.1 ∙ sym (cond-false _ h w.least (le-ltb _ _ p.0.left))
+      | goal.then-here-least p ↦ p.least-is ∙ sym (cond-true _ h w.least (lt-ltb _ _ p.if-here-least.true))
+      | goal.else-here-least p ↦ p.least-is ∙ sym (cond-false _ h w.least (le-ltb _ _ p.if-here-least.false))
     ] in (
       omega arith,
       more ∙ ap (λ (x : Leader). cond (ltb x.total h.total) h x) w.invariant.1 ∙ most-next ts w.i ∙ ap (λ (k : ℕ). leader_at ts (most_of ts k)) (sym (add-one w.i)),

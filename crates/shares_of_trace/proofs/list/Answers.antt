@@ -9,5 +9,3 @@ slice_bounds-out-end c = let p = c.thawonlai_share_listing-length in (listed-par
 pub slice_bounds-write_all-end : goal.slice_bounds-write_all-end
 slice_bounds-write_all-end c = let p = c.thawonlai_share_listing-length in (listed-part 4096 _ _ _ p.ensures.0 p.ensures.1).1
 
-slice-aggregate-fail : tie.Need-slice-aggregate-fail
-slice-aggregate-fail c = search rules

@@ -10,5 +10,3 @@ slice_bounds-out-end c = let t = c.to_text-made in (told_part _ t.new.1.0 t.resu
 pub slice_bounds-write_all-end : goal.slice_bounds-write_all-end
 slice_bounds-write_all-end c = let t = c.to_text-made in (told_part _ t.new.1.0 t.result t.auto.out.0 _ t.ensures.0).1
 
-slice-aggregate-fail : tie.Need-slice-aggregate-fail
-slice-aggregate-fail c = search rules

@@ -10,5 +10,3 @@ slice_bounds-out-end c = let t = c.from_text-made in (made-part _ t.new.1.0 t.re
 slice-aggregate-write-all-2 : tie.Need-slice-aggregate-write-all-2
 slice-aggregate-write-all-2 c = let t = c.from_text-made in (made-part _ t.new.1.0 t.result t.auto.out.0 _ t.ensures.0).1
 
-slice-aggregate-fail : tie.Need-slice-aggregate-fail
-slice-aggregate-fail c = search rules

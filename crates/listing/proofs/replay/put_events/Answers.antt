@@ -22,10 +22,10 @@ abbrev Taken : Type 0
 Taken = lts.After-step_at
 
 abbrev turn : Taken → lts.At-loop
-turn c = c
+turn c = c.before.before.before.before.before
 
 abbrev started : lts.At-loop → lts.Start
-started c = c
+started c = c.before.before.before
 
 abbrev state_here : lts.At-loop → State
 state_here c = whole c.loop-i.s c.loop-i.dues c.loop-i.amounts
@@ -34,15 +34,15 @@ abbrev step : Taken → FileStep
 step c = stepped_with c.step_at-step.result c.step_at-step.new.1.0 c.step_at-step.new.1.1.0
 
 pub loop-i-init : goal.loop-i-init
-loop-i-init c = (omega arith, c.requires.0, refl, omega arith, refl, printed-none _ _ _)
+loop-i-init c = (omega arith, c.before.before.requires.0, refl, omega arith, refl, printed-none _ _ _)
 
 pub step_at-step-requires : goal.step_at-step-requires
-step_at-step-requires c = (c.loop-i.invariant.1, refl)
+step_at-step-requires c = (c.before.before.before.before.loop-i.invariant.1, refl)
 
 pub put_event-here-requires : goal.put_event-here-requires
 put_event-here-requires c =
-    let h = turn c in
-    (omega arith, omega (arith, (started h).pre.1, h.loop.inv.2, h.loop.inv.3))
+    let h = turn c.before.before.before.before in
+    (omega arith, omega (arith, (started h).requires.1, h.loop-i.invariant.2, h.loop-i.invariant.3))
 
 pub overflow_add-i : goal.overflow_add-i
 overflow_add-i c = omega arith
@@ -52,28 +52,28 @@ loop-i-smaller c = omega arith
 
 pub loop-i-preserved : goal.loop-i-preserved
 loop-i-preserved c =
-    let p = c in
-    let n = p in
-    let t = n in
+    let p = c.before.before in
+    let n = p.before.before in
+    let t = n.before.before.before in
     let h = turn t in
-    let w = h.loop in
+    let w = h.loop-i in
     let a = (started h).args in
     let k : most_events - w.i ≡ suc (most_events - (w.i + 1)) = omega arith in
     let g = goes_on (state_here h) a.file.now w.offset (most_events - (w.i + 1)) (step t) t.step_at-step.ensures.0 (not-false _ n.if-not-step.false) in (
       omega arith,
       t.step_at-step.ensures.1.0,
-      p.put_event-here.auto.out ∙ w.inv.2,
-      omega (arith, w.inv.3, p.put_event-here.ensures.1),
-      sym g.state ∙ rw k at w.inv.4,
-      printed-next _ _ (omega (arith, (started h).pre.1, w.inv.3)) w.inv.5 (rw k (line-next (state_here h) a.file.now w.offset (most_events - (w.i + 1)) w.i (step t) g)) p.put_event-here.ensures.0,
+      p.put_event-here.auto.0 ∙ w.invariant.2,
+      omega (arith, w.invariant.3, p.put_event-here.ensures.1),
+      sym g.state ∙ rw k at w.invariant.4,
+      printed-next _ _ (omega (arith, (started h).requires.1, w.invariant.3)) w.invariant.5 (rw k (line-next (state_here h) a.file.now w.offset (most_events - (w.i + 1)) w.i (step t) g)) p.put_event-here.ensures.0,
     )
 
 pub shape_of-out-after-loop-i : goal.shape_of-out-after-loop-i
-shape_of-out-after-loop-i c = c.loop-i.invariant.2
+shape_of-out-after-loop-i c = c.before.loop-i.invariant.2
 
 pub returns-after-loop-i : goal.returns-after-loop-i
 returns-after-loop-i c =
-    let h = c in
+    let h = c.before in
     let w = h.loop-i in
     let a = (started h).args in
     let k : most_events - w.i ≡ 0 = omega arith in
@@ -83,16 +83,16 @@ returns-after-loop-i c =
     )
 
 pub shape_of-out-then-not-step : goal.shape_of-out-then-not-step
-shape_of-out-then-not-step c = (turn c).loop.inv.2
+shape_of-out-then-not-step c = (turn c.before.before.before).loop.invariant.2
 
 pub returns-then-not-step : goal.returns-then-not-step
 returns-then-not-step c =
-    let k = c in
+    let k = c.before.before.before in
     let h = turn k in
-    let w = h.loop in
+    let w = h.loop-i in
     let a = (started h).args in
     let m = not-true _ c.if-not-step.true in
     let z = stops-here (state_here h) a.file.now w.offset (most_events - w.i) (step k) k.step_at-step.ensures.0 m in (
-      printed-all w.inv.5 (line-none (state_here h) a.file.now w.offset (most_events - w.i) w.i z),
-      (stays (state_here h) a.file.now w.offset 0 (step k) k.step_at-step.ensures.0 m ∙ sym z.state ∙ w.inv.4, k.step_at-step.ensures.1.0, omega arith),
+      printed-all w.invariant.5 (line-none (state_here h) a.file.now w.offset (most_events - w.i) w.i z),
+      (stays (state_here h) a.file.now w.offset 0 (step k) k.step_at-step.ensures.0 m ∙ sym z.state ∙ w.invariant.4, k.step_at-step.ensures.1.0, omega arith),
     )

@@ -14,36 +14,36 @@ abbrev Begins : Type 0
 Begins = lts.After-begin
 
 abbrev started : Begins → lts.Start
-started c = c
+started c = c.before.before.before.before.before
 
 abbrev beginning : Begins → Beginning
 beginning c = begun_with c.begin-begun.result c.begin-begun.new.1.0 c.begin-begun.new.1.1.0
 
 pub returns-then-begun-ne0 : goal.returns-then-begun-ne0
 returns-then-begun-ne0 c =
-    let p = c.put_refusal in
-    let i = c in
-    let b = i in
+    let p = c.before.before.put_refusal in
+    let i = c.before.before.before.before in
+    let b = i.before.before in
     (refusal-put (started b).args.file.now (beginning b) b.begin-begun.ensures.0 i.if-begun-ne0.true p.ensures.0, omega (arith, p.ensures.1))
 
 pub put_refusal-requires : goal.put_refusal-requires
-put_refusal-requires c = omega (arith, (started c).requires)
+put_refusal-requires c = omega (arith, (started c.before.before.before).requires)
 
 pub last_answer-last-requires : goal.last_answer-last-requires
 last_answer-last-requires c =
-    let i = c in
-    i.begin-begun.ensures.1 i.if-begun-ne0.false
+    let i = c.before.before.before in
+    i.before.before.begin-begun.ensures.1 i.if-begun-ne0.false
 
 pub put_shares-requires : goal.put_shares-requires
 put_shares-requires c =
-    let l = c in
-    (l.last_answer-last.ensures.1, omega (arith, (started l).requires))
+    let l = c.before.before.before.before in
+    (l.last_answer-last.ensures.1, omega (arith, (started l.before.before.before.before.before.before).requires))
 
 pub returns : goal.returns
 returns c =
-    let p = c.put_shares in
-    let l = c in
-    let i = l in
-    let b = i in
+    let p = c.before.before.put_shares in
+    let l = c.before.before.before.before.before.before.before in
+    let i = l.before.before.before.before in
+    let b = i.before.before in
     let e = ap (λ (x : Answer State). x.state) l.last_answer-last.ensures.0 ∙ last-state (beginning b).answer (started b).args.file.now (beginning b).offset 1500 in
     (shares-put (started b).args.file.now (beginning b) b.begin-begun.ensures.0 i.if-begun-ne0.false _ e p.ensures.0, omega (arith, p.ensures.1))
