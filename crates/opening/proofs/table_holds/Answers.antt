@@ -3,7 +3,6 @@ use Prim.Native.Nat.{ℕ, ◌-◌, ◌≤◌}
 use mathlib.Core.Path.{◌≡◌, refl, sym, ap, ◌∙◌}
 use native.Mathlib.Omega.{arith}
 use borrow.Author.Rules.{rules}
-use borrow.Author.Tests.{not-true, not-false}
 use Rattle.base.specs.Tests.{below}
 use Rattle.opening.proofs.OpenLaws.{opens, below_less, below-stops}
 use Rattle.opening.proofs.table_holds.Goals as goal
@@ -23,7 +22,7 @@ bounds-table-i c = omega arith
 pub returns-then-not-may_open : goal.returns-then-not-may_open
 returns-then-not-may_open c =
     let b = c in
-    sym (b.loop-i.invariant.1 ∙ below-stops (opens b.args.table) b.loop-i.i (b.loop-i.i - 1) (omega arith) (sym c.may_open.ensures ∙ not-true _ c.if-not-may_open.true))
+    sym (b.loop-i.invariant.1 ∙ below-stops (opens b.args.table) b.loop-i.i (b.loop-i.i - 1) (omega arith) (sym c.may_open.ensures ∙ c.if-not-may_open.true))
 
 pub loop-i-smaller : goal.loop-i-smaller
 loop-i-smaller c = omega arith
@@ -31,7 +30,7 @@ loop-i-smaller c = omega arith
 pub loop-i-preserved : goal.loop-i-preserved
 loop-i-preserved c =
     let b = c in
-    (omega arith, b.loop-i.invariant.1 ∙ below_less (opens b.args.table) b.loop-i.i (b.loop-i.i - 1) (omega arith) (sym c.may_open.ensures ∙ not-false _ c.if-not-may_open.false))
+    (omega arith, b.loop-i.invariant.1 ∙ below_less (opens b.args.table) b.loop-i.i (b.loop-i.i - 1) (omega arith) (sym c.may_open.ensures ∙ c.if-not-may_open.false))
 
 pub returns : goal.returns
 unfolding below
