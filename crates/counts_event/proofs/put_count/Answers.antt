@@ -9,9 +9,9 @@ use Rattle.counts_event.proofs.put_count.Goals as goal
 pub returns-then-is_quiet : goal.returns-then-is_quiet
 returns-then-is_quiet c =
     let a = c.args in
-    (quiet_put a.xs.now a.i (sym c.if-is_quiet.true ∙ c.is_quiet.ensures) (nothing a.out.now a.at), omega arith)
+    record { put = quiet_put a.xs.now a.i (sym c.if-is_quiet.true ∙ c.is_quiet.ensures) (nothing a.out.now a.at); upper_bound = omega arith }
 
 pub returns : goal.returns
 returns c =
     let a = c.args in
-    (count-put a.xs.now a.i (sym c.if-is_quiet.false ∙ c.is_quiet.ensures) c.put_thread.ensures.0, c.put_thread.ensures.1)
+    record { put = count-put a.xs.now a.i (sym c.if-is_quiet.false ∙ c.is_quiet.ensures) c.put_thread.ensures.put; upper_bound = c.put_thread.ensures.upper_bound }

@@ -19,7 +19,7 @@ loop-t-init c = (omega arith, refl, omega arith, lines_none _ _ _)
 pub put_count-here-requires : goal.put_count-here-requires
 put_count-here-requires c =
     let w = c.loop-t in
-    (omega (arith, c.requires.1), omega (arith, c.requires.1, c.requires.2, w.invariant.1, w.invariant.2, c.put_event_line-here.auto.out, c.put_event_line-here.ensures.1))
+    (omega (arith, c.requires.1), omega (arith, c.requires.1, c.requires.2, w.invariant.1, w.invariant.2, c.put_event_line-here.auto.out, c.put_event_line-here.ensures.upper_bound))
 
 pub loop-t-preserved : goal.loop-t-preserved
 loop-t-preserved c =
@@ -27,8 +27,8 @@ loop-t-preserved c =
     let w = c.loop-t in (
       omega arith,
       p.auto.out ∙ w.invariant.1,
-      omega (arith, w.invariant.2, p.ensures.1),
-      lines_next (count_line c.args.told.now) w.t (omega (arith, c.requires.1, c.requires.2, w.invariant.2, c.put_event_line-here.auto.out, c.put_event_line-here.ensures.1)) w.invariant.3 p.ensures.0,
+      omega (arith, w.invariant.2, p.ensures.upper_bound),
+      lines_next (count_line c.args.told.now) w.t (omega (arith, c.requires.1, c.requires.2, w.invariant.2, c.put_event_line-here.auto.out, c.put_event_line-here.ensures.upper_bound)) w.invariant.3 p.ensures.put,
     )
 
 pub shape_of-out : goal.shape_of-out
@@ -38,7 +38,7 @@ pub returns : goal.returns
 returns c =
     let w = c.loop-t in
     let a = c.args in
-    let k : w.t ≡ a.n = omega arith in (
-      event-put a.i a.status a.n a.told.now (omega (arith, c.requires.2, c.put_event_line-here.ensures.1)) c.put_event_line-here.ensures.0 (rw k at w.invariant.3),
-      omega (arith, w.invariant.2, c.put_event_line-here.ensures.1, c.requires.1),
-    )
+    let k : w.t ≡ a.n = omega arith in record {
+      put = event-put a.i a.status a.n a.told.now (omega (arith, c.requires.2, c.put_event_line-here.ensures.upper_bound)) c.put_event_line-here.ensures.put (rw k at w.invariant.3);
+      upper_bound = omega (arith, w.invariant.2, c.put_event_line-here.ensures.upper_bound, c.requires.1);
+    }

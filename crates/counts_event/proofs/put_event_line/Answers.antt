@@ -25,4 +25,5 @@ unfolding event_line
 returns c =
     let a = c.args in
     let l = event-length a.i c.requires.0 c.ranges.status in
-    ended l (all_three a.out.now 0 event_word (field a.i space) (field a.status newline) (within 0 l c.requires.1) c.put_word-here.ensures c.put_field-there.ensures c.put_field.ensures)
+    let e = ended l (all_three a.out.now 0 event_word (field a.i space) (field a.status newline) (within 0 l c.requires.1) c.put_word-here.ensures c.put_field-there.ensures c.put_field.ensures) in
+    record { put = e.0; upper_bound = e.1 }

@@ -28,5 +28,6 @@ returns c =
     let a = c.args in
     let f = c.ranges in
     let l = four-length a.word.now a.i c.requires.0 c.requires.1 f.limits f.quanta f.replenishments f.amounts in
-    ended l
-    (all_three a.out.now a.at a.word.now (field a.i space) (row a.limits a.quanta a.replenishments a.amounts) (within a.at l c.requires.2) c.put_word-here.ensures c.put_field-there.ensures c.put_row.ensures)
+    let e = ended l
+    (all_three a.out.now a.at a.word.now (field a.i space) (row a.limits a.quanta a.replenishments a.amounts) (within a.at l c.requires.2) c.put_word-here.ensures c.put_field-there.ensures c.put_row.ensures) in
+    record { put = e.0; upper_bound = e.1 }

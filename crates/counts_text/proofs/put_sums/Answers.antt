@@ -25,8 +25,8 @@ loop-t-preserved c =
     let w = c.loop-t in (
       omega arith,
       p.auto.out ∙ w.invariant.1,
-      omega (arith, w.invariant.2, p.ensures.1),
-      lines_next (thread_line sum_word c.args.sums.now) w.t (omega (arith, c.requires.0, c.requires.1, w.invariant.2)) w.invariant.3 p.ensures.0,
+      omega (arith, w.invariant.2, p.ensures.upper_bound),
+      lines_next (thread_line sum_word c.args.sums.now) w.t (omega (arith, c.requires.0, c.requires.1, w.invariant.2)) w.invariant.3 p.ensures.put,
     )
 
 pub shape_of-out : goal.shape_of-out
@@ -37,4 +37,4 @@ unfolding sums_text
 returns c =
     let w = c.loop-t in
     let k : w.t ≡ c.args.n = omega arith in
-    (rw k at w.invariant.3, omega (arith, w.invariant.2, c.requires.0))
+    record { put = rw k at w.invariant.3; upper_bound = omega (arith, w.invariant.2, c.requires.0) }

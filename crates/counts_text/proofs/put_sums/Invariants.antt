@@ -13,7 +13,7 @@ use Rattle.counts_text.proofs.put_sums.Given as goal
 
 abbrev pub invariant-loop-t : goal.invariant-loop-t
 invariant-loop-t l =
-    (t ≤ l.n) × (length l.here ≡ length l.initial.out) × (l.t ≤ thread_line_most * t) × Put l.initial.out 0 (joined (thread_line sum_word l.sums) t) l.here l.t
+    (l.t ≤ l.n) × (length l.out ≡ length l.initial.out) × (l.here ≤ thread_line_most * l.t) × Put l.initial.out 0 (joined (thread_line sum_word l.sums) l.t) l.out l.here
 
 abbrev pub decreases-loop-t : goal.decreases-loop-t
-decreases-loop-t l = l.n - t
+decreases-loop-t l = l.n - l.t

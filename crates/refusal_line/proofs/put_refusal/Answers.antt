@@ -13,4 +13,4 @@ pub returns : goal.returns
 unfolding refused_line
 returns c =
     let p = c.put_labelled in
-    (p.ensures, omega (arith, p.ensures.next, labelled-length refused_word {n = c.args.status} (omega arith)))
+    record { put = p.ensures; upper_bound = omega (arith, p.ensures.next, labelled-length refused_word {n = c.args.status} (omega arith)) }
