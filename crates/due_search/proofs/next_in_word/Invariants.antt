@@ -1,4 +1,4 @@
--- `due_search::next_in_word` meets its contract: `best` is what the definition gives for the threads that the word no longer names, and
+-- The loop of `due_search::next_in_word`: `best` is what the definition gives for the threads that the word no longer names.
 use Prim.Native.Nat.{ℕ, ◌-◌, ◌^◌, ◌<◌, ◌≤◌}
 use mathlib.Core.Path.{◌≡◌}
 use mathlib.Core.List.{List}

@@ -1,4 +1,4 @@
--- `executive::answer_last` meets its contract: each turn either begins an event, judges a set that carries an account over, passes time,
+-- The loop of `executive::answer_last`: what is known between its turns, and the events that are left.
 use Prim.Native.Nat.{◌+◌, ◌*◌, ◌-◌}
 use lib.ListN.{set}
 use Rattle.state.specs.Updates.{whole}
