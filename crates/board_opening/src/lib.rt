@@ -52,7 +52,7 @@ fn sound_number<'a>(c: Core, dues: &'a Slots, amounts: &'a Slots) -> u8
 // 1 where a lent state is sound, else 0.
 #[unsafe(no_mangle)]
 pub extern "C" fn thawonlai_sound<'c, 'a>(core: &'c Core, dues: &'a Slots, amounts: &'a Slots) -> u8
-    ensures { result ≡ cond (sound_state (whole core.now dues.now amounts.now)) 1 0 }
+    ensures { result ≡ cond (sound_state (whole core.entry.now dues.now amounts.now)) 1 0 }
 {
     sound_number(*core, dues, amounts)
 }

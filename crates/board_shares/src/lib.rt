@@ -67,7 +67,7 @@ pub extern "C" fn thawonlai_share<'c, 'a>(
     amounts: &'a Slots,
     thread: u8,
 ) -> ShareReply
-    ensures { result ≡ share_reply (share_of (whole core.now dues.now amounts.now) thread) }
+    ensures { result ≡ share_reply (share_of (whole core.entry.now dues.now amounts.now) thread) }
 {
     share_numbers(*core, dues, amounts, thread)
 }
@@ -111,7 +111,7 @@ pub extern "C" fn thawonlai_share_summary<'c, 'a>(
     dues: &'a Slots,
     amounts: &'a Slots,
 ) -> SummaryReply
-    ensures { result ≡ summary_reply (summarized_of (whole core.now dues.now amounts.now)) }
+    ensures { result ≡ summary_reply (summarized_of (whole core.entry.now dues.now amounts.now)) }
 {
     summary_numbers(*core, dues, amounts)
 }

@@ -1,12 +1,9 @@
 -- `trace_from_text::turn` is safe: the file is a part of the buffer.
-use borrow.Author.Rules.{rules}
 use Rattle.trace_making.proofs.StatusLaws.{made-part}
-use borrow.Author.Rules.{rules}
 use Rattle.trace_from_text.proofs.turn.Goals as goal
 
 pub slice_bounds-out-end : goal.slice_bounds-out-end
-slice_bounds-out-end c = let t = c.from_text-made in (made-part _ t.new.1.0 t.result t.auto.out.0 _ t.ensures.0).0
+slice_bounds-out-end g c = let t = c.from_text-made in (made-part _ t.new.out t.result t.auto.out _ t.ensures.value).0
 
-slice-aggregate-write-all-2 : tie.Need-slice-aggregate-write-all-2
-slice-aggregate-write-all-2 c = let t = c.from_text-made in (made-part _ t.new.1.0 t.result t.auto.out.0 _ t.ensures.0).1
-
+pub slice_bounds-write_all-end-2 : goal.slice_bounds-write_all-end-2
+slice_bounds-write_all-end-2 g c = let t = c.from_text-made in (made-part _ t.new.out t.result t.auto.out _ t.ensures.value).1
