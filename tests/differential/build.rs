@@ -1,8 +1,10 @@
-// Links the static libraries of the repository, each written by `rt lib` in its crate's folder (`tests/libraries`).
+// Links the static libraries of the repository, each made by `tests/libraries NAME`.
 use std::path::Path;
 
 fn main() {
     let here = std::env::var("CARGO_MANIFEST_DIR").expect("cargo names the package's folder");
+    let folder = Path::new(&here).join("../../target/staticlib");
+    println!("cargo:rustc-link-search=native={}", folder.display());
     for name in [
         "board",
         "board_opening",
@@ -10,14 +12,13 @@ fn main() {
         "board_search",
         "board_bound",
         "board_shares",
-        "share_listing_c",
+        "share_listing",
         "board_trace",
         "board_listing",
         "board_replay",
         "board_text",
         "board_check",
     ] {
-        let folder = Path::new(&here).join(format!("../../crates/{name}/out"));
         let archive = folder.join(format!("lib{name}.a"));
         if !archive.exists() {
             panic!(
@@ -26,7 +27,6 @@ fn main() {
             );
         }
         println!("cargo:rerun-if-changed={}", archive.display());
-        println!("cargo:rustc-link-search=native={}", folder.display());
         println!("cargo:rustc-link-lib=static={name}");
     }
 }

@@ -11,4 +11,4 @@ pub overflow_cast-low : goal.overflow_cast-low
 overflow_cast-low c = omega arith
 
 pub returns : goal.returns
-returns c = difference _ _ _ _ refl (omega arith) (omega arith) c.wrapping_sub_u32.ensures
+returns c = difference _ _ _ _ refl (omega arith) (omega arith) c.wrapping_sub_u32.ensures.value

@@ -6,4 +6,4 @@ use Rattle.counter.proofs.event.Goals as goal
 pub returns : goal.returns
 returns c =
     let same = guarded-same _ _ _ c.guarded_time.ensures in
-    (c.event.ensures.0 ∙ same.0, c.event.ensures.1 ∙ same.1)
+    record { amounts_after = c.event.ensures.amounts_after ∙ same.0; numbers = c.event.ensures.numbers ∙ same.1 }

@@ -25,7 +25,6 @@ returns-then-amount-eq0 c =
 
 -- ---- an entry comes
 
-
 pub insert_entry-requires : goal.insert_entry-requires
 insert_entry-requires c =
     let w = c in

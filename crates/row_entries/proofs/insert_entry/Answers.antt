@@ -30,7 +30,6 @@ later_before-requires c = (omega arith, omega arith, omega arith)
 
 -- ---- a later due before slot k
 
-
 pub overflow_sub-dues : goal.overflow_sub-dues
 overflow_sub-dues c = omega (arith, (c.later_before.ensures.0 c.loop-dues-test.true).0)
 
@@ -98,7 +97,6 @@ loop-dues-preserved c =
     )
 
 -- ---- the slot is found
-
 
 pub overflow_add-dues-2 : goal.overflow_add-dues-2
 overflow_add-dues-2 c = omega arith

@@ -1,2 +1,0 @@
--- Laws that the proofs of `board_opening` share.
-pub mod OpeningLaws
