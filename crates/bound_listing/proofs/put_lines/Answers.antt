@@ -36,8 +36,8 @@ loop-i-preserved c =
     let s = t in (
       omega arith,
       p.auto.out ∙ w.invariant.1,
-      omega (arith, w.invariant.2, p.ensures.1),
-      lines_next s.args.table s.args.ticks w.i (omega (arith, s.requires, w.invariant.2, t.loop-i-test.true)) w.invariant.3 p.ensures.0,
+      omega (arith, w.invariant.2, p.ensures.upper_bound),
+      lines_next s.args.table s.args.ticks w.i (omega (arith, s.requires, w.invariant.2, t.loop-i-test.true)) w.invariant.3 p.ensures.put,
     )
 
 pub shape_of-out : goal.shape_of-out
@@ -48,4 +48,4 @@ unfolding bound_lines
 returns c =
     let w = c.loop-i in
     let k : w.i ≡ 32 = omega arith in
-    (rw k at w.invariant.3, omega (arith, w.invariant.0, w.invariant.2))
+    record { put = rw k at w.invariant.3; upper_bound = omega (arith, w.invariant.0, w.invariant.2) }

@@ -1,5 +1,4 @@
 -- `listing::lines::put_event` meets its contract: its four fields.
-use borrow.Author.Rules.{rules}
 use Rattle.listing.specs.Lines.{event_line}
 use Rattle.text.proofs.FieldLaws.{within, ended}
 use Rattle.listing.proofs.LineLaws.{event-length}
@@ -8,11 +7,10 @@ use Rattle.listing.proofs.lines.put_event.Goals as goal
 pub put_row-requires : goal.put_row-requires
 unfolding event_line
 put_row-requires c =
-    let s = c in
-    within s.args.at (event-length s.args.i s.requires.0 s.ranges.status s.ranges.running s.ranges.next) s.requires.1
+    within c.args.at (event-length c.args.i c.requires.0 c.ranges.status c.ranges.running c.ranges.next) c.requires.1
 
 pub returns : goal.returns
 unfolding event_line
 returns c =
-    let s = c in
-    ended (event-length s.args.i s.requires.0 s.ranges.status s.ranges.running s.ranges.next) c.put_row.ensures
+    let y = ended (event-length c.args.i c.requires.0 c.ranges.status c.ranges.running c.ranges.next) c.put_row.ensures in
+    record { put = y.0; upper_bound = y.1 }

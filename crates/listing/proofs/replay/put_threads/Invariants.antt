@@ -15,7 +15,7 @@ use Rattle.listing.proofs.replay.put_threads.Given as goal
 
 abbrev pub invariant-loop-i : goal.invariant-loop-i
 invariant-loop-i l =
-    (i ≤ l.n) × (length l.here ≡ length l.initial.out) × (l.i ≤ l.at + thread_line_most * i) × ((dues amounts : List ℕ) → Put l.initial.out l.at (thread_lines (whole l.c dues amounts) i) l.here l.i)
+    (l.i ≤ l.n) × (length l.out ≡ length l.initial.out) × (l.here ≤ l.at + thread_line_most * l.i) × ((dues amounts : List ℕ) → Put l.initial.out l.at (thread_lines (whole l.c dues amounts) l.i) l.out l.here)
 
 abbrev pub decreases-loop-i : goal.decreases-loop-i
-decreases-loop-i l = l.n - i
+decreases-loop-i l = l.n - l.i
