@@ -34,6 +34,6 @@ returns c =
     let a = c.args in
     let room = within a.at (numbers-length c.ranges.i c.ranges.most c.ranges.ticks) c.requires in
     let got = ended (numbers-length c.ranges.i c.ranges.most c.ranges.ticks)
-        (all-four a.out.now a.at thread_word (field a.i space) (field a.most space) (field a.ticks newline) room c.put_word-first.ensures c.put_field-second.ensures
-        c.put_field-third.ensures c.put_field.ensures) in
+    (all-four a.out.now a.at thread_word (field a.i space) (field a.most space) (field a.ticks newline) room c.put_word-first.ensures c.put_field-second.ensures
+    c.put_field-third.ensures c.put_field.ensures) in
     record { put = got.0; upper_bound = got.1 }

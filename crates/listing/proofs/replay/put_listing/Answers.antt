@@ -18,9 +18,9 @@ returns-then-begun-ne0 c =
 
 pub put_events-ended-requires : goal.put_events-ended-requires
 put_events-ended-requires c = (
-    c.begin-begun.ensures.amounts_after_2 c.if-begun-ne0.false,
-    omega (arith, c.put_header-here.ensures.next, c.put_header-here.auto.out, c.requires),
-  )
+  c.begin-begun.ensures.amounts_after_2 c.if-begun-ne0.false,
+  omega (arith, c.put_header-here.ensures.next, c.put_header-here.auto.out, c.requires),
+)
 
 pub put_threads-requires : goal.put_threads-requires
 put_threads-requires c =

@@ -25,8 +25,7 @@ put_thread-here-requires c =
 pub loop-i-preserved : goal.loop-i-preserved
 loop-i-preserved c =
     let w = c.loop-i in
-    let p = c.put_thread-here in
-    (
+    let p = c.put_thread-here in (
       omega arith,
       p.auto.out ∙ w.invariant.1,
       omega (arith, w.invariant.2, p.ensures.upper_bound),
