@@ -31,11 +31,6 @@ module _ (now : ℕ) (b : Bool) (p : Parameters) where
     abbrev next : Account
     next = applied (return_first now b p a) a
 
-    pub returned-done : (k : ℕ) → first_is_due now a.pending ≡ false → returned k now b p a ≡ a
-    unfolding returned
-    returned-done zero e = refl
-    returned-done (suc k) e = simp e
-
     returned-step : (k : ℕ) → first_is_due now a.pending ≡ true → returned (suc k) now b p a ≡ returned k now b p next
     unfolding returned
     returned-step k e = simp e

@@ -35,18 +35,16 @@ fn apply(e: Effect, a: Account) -> Account
     requires { Room e.first e.amount a.pending.count }
     ensures { result ≡ applied e a }
 {
-    let server = e.server;
     let q = a.pending;
-    let dues = q.dues;
-    let amounts = q.amounts;
-    let pending = Pending {
-        count: entries::count_after(e.first, e.amount, q.count),
-        dues: insertion::slots_after(dues, e.first, e.amount, dues, e.due, q.count, e.due),
-        amounts: insertion::slots_after(amounts, e.first, e.amount, dues, e.due, q.count, e.amount),
-    };
     Account {
-        server: server,
-        pending: pending,
+        server: e.server,
+        pending: Pending {
+            count: entries::count_after(e.first, e.amount, q.count),
+            dues: insertion::slots_after(q.dues, e.first, e.amount, q.dues, e.due, q.count, e.due),
+            amounts: insertion::slots_after(
+                q.amounts, e.first, e.amount, q.dues, e.due, q.count, e.amount,
+            ),
+        },
     }
 }
 
@@ -55,26 +53,27 @@ pub fn outcome_of(e: Effect, a: Account) -> Outcome
     requires { Room e.first e.amount a.pending.count }
     ensures { result ≡ outcome e a }
 {
-    let x = e.place;
     Outcome {
         account: apply(e, a),
-        place: x,
+        place: e.place,
     }
 }
 
 // The running thread blocks.
+#[tactic(auto, unfolding(sporadic::specs::Rules::scheduled))]
 pub fn block(p: Parameters, a: Account, blocked: bool, now: u64) -> Outcome
     requires { Schedulable p a.server a.pending.count }
     ensures { result ≡ blocking now blocked p a }
 {
-    let s = a.server;
-    outcome_of(effects::block_effect(p, s, blocked, now), a)
+    outcome_of(effects::block_effect(p, a.server, blocked, now), a)
 }
 
 // A blocked thread wakes.
 pub fn wake(p: Parameters, a: Account, blocked: bool, now: u64) -> Outcome
     ensures { result ≡ waking now blocked p a }
 {
-    let s = a.server;
-    outcome_of(wake::wake_effect(p, s, a.pending.count, blocked, now), a)
+    outcome_of(
+        wake::wake_effect(p, a.server, a.pending.count, blocked, now),
+        a,
+    )
 }

@@ -9,22 +9,11 @@ ghost use Rattle.account.specs.Sound.{number_tests, sound_at};
 ghost use Rattle.account_lent.specs.Lent.{account_of};
 
 use account::ENTRIES;
-use base::wide;
 use records::Parameters;
 use sporadic::Server;
 
 // The most entries that there are slots for.
 const MOST: u8 = ENTRIES as u8;
-
-// One of two numbers.
-fn either(first: bool, a: u64, b: u64) -> u64
-    ensures { result ≡ cond first a b }
-{
-    if first {
-        return a;
-    }
-    b
-}
 
 // The count, U and the activation time. `up`: runnable at the upper priority.
 fn numbers_hold(p: Parameters, s: Server, count: u8, up: bool, start: u64, now: u64) -> bool
@@ -36,7 +25,7 @@ fn numbers_hold(p: Parameters, s: Server, count: u8, up: bool, start: u64, now: 
     if MOST < count {
         return false;
     }
-    if either(up, 0, s.used) != 0 {
+    if !up && s.used != 0 {
         return false;
     }
     if s.activation < start {
@@ -52,13 +41,10 @@ fn numbers_hold(p: Parameters, s: Server, count: u8, up: bool, start: u64, now: 
 fn runs_upper(p: Parameters, capacity: u64, count: u8, blocked: bool) -> bool
     ensures { result ≡ cond blocked false (at_upper p capacity count) }
 {
-    if blocked {
-        return false;
-    }
-    sporadic::at_upper(p, capacity, count)
+    !blocked && sporadic::at_upper(p, capacity, count)
 }
 
-// Whether the account is sound at a time, for any values of its fields.
+// Whether the account is sound at a time, for any values of its fields. Slices, as a part of an array is lent too.
 pub fn sound_lent<'a>(
     p: Parameters,
     s: Server,
@@ -76,7 +62,7 @@ pub fn sound_lent<'a>(
     if !numbers_hold(p, s, count, up, start, time) {
         return false;
     }
-    let n = wide(count);
+    let n = usize::from(count);
     if !entries_sound::entries_hold(
         p.budget,
         s.capacity,

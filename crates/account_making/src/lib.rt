@@ -7,7 +7,7 @@ ghost use Rattle.account.specs.Carry.{carried, set_account};
 ghost use Rattle.sporadic.specs.Carry.{Carryable};
 
 use account::{Account, ENTRIES, Pending};
-use records::Parameters;
+use records::{Parameters, SCHED_SPORADIC};
 use sporadic::Server;
 
 // An account with nothing charged and nothing pending.
@@ -16,9 +16,9 @@ fn unused(capacity: u64, activation: u64) -> Account
 {
     Account {
         server: Server {
-            capacity: capacity,
+            capacity,
             used: 0,
-            activation: activation,
+            activation,
         },
         pending: Pending {
             count: 0,
@@ -39,22 +39,21 @@ pub fn fresh(p: Parameters, now: u64) -> Account
 pub fn new_account(p: Parameters, now: u64) -> Account
     ensures { result ≡ new_account now p }
 {
-    if p.policy < 2 {
+    if p.policy < SCHED_SPORADIC {
         return unused(0, 0);
     }
     fresh(p, now)
 }
 
 // An account that is carried over to new parameters: the entries stay.
+#[tactic(auto, unfolding(account::specs::Carry::carried))]
 fn carry(old: Parameters, new: Parameters, a: Account, blocked: bool, now: u64) -> Account
     requires { Carryable old new a.server.capacity }
     ensures { result ≡ carried now blocked old new a }
 {
-    let s = a.server;
-    let q = a.pending;
     Account {
-        server: carrying::carry_server(old, new, s, q.count, blocked, now),
-        pending: q,
+        server: carrying::carry_server(old, new, a.server, a.pending.count, blocked, now),
+        ..a
     }
 }
 
@@ -63,10 +62,7 @@ pub fn set_account(old: Parameters, new: Parameters, a: Account, blocked: bool, 
     requires { 1 < old.policy → 1 < new.policy → Carryable old new a.server.capacity }
     ensures { result ≡ set_account now blocked old new a }
 {
-    if old.policy < 2 {
-        return new_account(new, now);
-    }
-    if new.policy < 2 {
+    if old.policy < SCHED_SPORADIC || new.policy < SCHED_SPORADIC {
         return new_account(new, now);
     }
     carry(old, new, a, blocked, now)

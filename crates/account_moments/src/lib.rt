@@ -9,7 +9,7 @@ ghost use Rattle.account.specs.Rules.{outcome, Schedulable};
 use account::{Account, Outcome, Pending};
 use records::Parameters;
 
-// When the first pending replenishment is due; 0 where none is pending.
+// When the first pending replenishment is due; 0, and no Option, where none is pending: the definition gives 0.
 pub fn first_due(q: Pending) -> u64
     ensures { result ≡ first_due q }
 {
@@ -20,10 +20,10 @@ pub fn first_due(q: Pending) -> u64
 }
 
 // The limit is reached.
+#[tactic(auto, unfolding(sporadic::specs::Rules::limit_effect, sporadic::specs::Rules::scheduled))]
 pub fn limit_reached(p: Parameters, a: Account, blocked: bool, now: u64) -> Outcome
     requires { Schedulable p a.server a.pending.count }
     ensures { result ≡ outcome (limit_effect now blocked p a.server) a }
 {
-    let s = a.server;
-    account::outcome_of(effects::limit_effect(p, s, blocked, now), a)
+    account::outcome_of(effects::limit_effect(p, a.server, blocked, now), a)
 }

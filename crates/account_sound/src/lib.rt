@@ -11,8 +11,8 @@ use records::Parameters;
 pub fn sound(p: Parameters, a: Account, blocked: bool, start: u64, now: u64) -> bool
     ensures { result ≡ sound_at start now blocked p a }
 {
-    let s = a.server;
-    let dues = a.pending.dues;
-    let amounts = a.pending.amounts;
-    account_lent::sound_lent(p, s, a.pending.count, &dues, &amounts, blocked, start, now)
+    let q = a.pending;
+    account_lent::sound_lent(
+        p, a.server, q.count, &q.dues, &q.amounts, blocked, start, now,
+    )
 }

@@ -1,37 +1,26 @@
 // Runs stored cases of the account rules and prints each account, for comparison with the file stdout.
 // A line: capacity, U, activation time, pending count, then due and amount of each pending replenishment, `|`,
 // 1 where the account is sound else 0, and where the thread goes: 0 stays, 1 low, 2 low then upper, 3 upper.
+// A case is a function of its own: its title and its numbers.
 #![tactic(auto)]
 
-use account::{Account, Outcome, Pending};
-use records::Parameters;
-use sporadic::{Place, Server};
+ghost use Rattle.std.specs.Prelude.{◌≡◌, true};
+ghost use Rattle.account.specs.Rules.{Schedulable};
 
-const STDOUT_FILENO: i32 = 1;
-
-fn number(n: u64) {
-    io::print_decimal(STDOUT_FILENO, n);
-    io::write_all(STDOUT_FILENO, b" ");
-}
+use account::{Account, ENTRIES, Outcome, Pending};
+use records::{LAST_TIME, MOST_TICKS, Parameters, SCHED_SPORADIC};
+use sporadic::Server;
+use vector_lines::{end_line, last_number, line, number, text, title};
 
 fn print_entries(q: Pending) {
-    let mut i: usize = 0;
-    while i < account::ENTRIES {
-        let k = i;
-        i = i + 1;
-        if (k as u64) < (q.count as u64) {
-            number(q.dues[k]);
-            number(q.amounts[k]);
-        }
-    }
-}
-
-fn place_number(x: Place) -> u64 {
-    match x {
-        Place::Stays => 0,
-        Place::Low => 1,
-        Place::LowThenUpper => 2,
-        Place::Upper => 3,
+    for (due, amount) in q
+        .dues
+        .iter()
+        .zip(q.amounts.iter())
+        .take(usize::from(q.count))
+    {
+        number(*due);
+        number(*amount);
     }
 }
 
@@ -39,44 +28,32 @@ fn print_account(p: Parameters, a: Account, blocked: bool, now: u64) {
     number(a.server.capacity);
     number(a.server.used);
     number(a.server.activation);
-    number(a.pending.count as u64);
-    let q = a.pending;
-    print_entries(q);
-    io::write_all(STDOUT_FILENO, b"|");
+    number(u64::from(a.pending.count));
+    print_entries(a.pending);
+    text(b"|");
     if account_sound::sound(p, a, blocked, 0, now) {
-        io::write_all(STDOUT_FILENO, b" 1");
+        text(b" 1");
     } else {
-        io::write_all(STDOUT_FILENO, b" 0");
+        text(b" 0");
     }
 }
 
-fn end_line() {
-    io::write_all(STDOUT_FILENO, b"\n");
-}
-
-fn print_outcome(p: Parameters, o: Outcome, blocked: bool, now: u64) {
-    let a = o.account;
-    let x = o.place;
-    print_account(p, a, blocked, now);
-    io::write_all(STDOUT_FILENO, b" ");
-    io::print_decimal(STDOUT_FILENO, place_number(x));
-    end_line();
-}
-
-fn title(text: &[u8]) {
-    io::write_all(STDOUT_FILENO, text);
-    end_line();
+// Prints the answer of a rule, and goes on with its account.
+fn shown(p: Parameters, o: Outcome, blocked: bool, now: u64) -> Account {
+    print_account(p, o.account, blocked, now);
+    line(b"", o.place as u64);
+    o.account
 }
 
 fn sporadic(budget: u64, period: u64, max_repl: u8) -> Parameters {
     Parameters {
-        policy: 2,
+        policy: SCHED_SPORADIC,
         priority: 20,
         low: 5,
-        max_repl: max_repl,
+        max_repl,
         flag: 0,
-        budget: budget,
-        period: period,
+        budget,
+        period,
     }
 }
 
@@ -87,65 +64,62 @@ fn run(p: Parameters, a: Account, k: u64, now: u64) -> Account {
         title(b"no capacity");
         return a;
     }
-    if 1000000000 < s.capacity {
+    if MOST_TICKS < s.capacity {
         title(b"too much capacity");
         return a;
     }
-    if 1000000000 < s.used {
+    if MOST_TICKS < s.used {
         title(b"too much used");
         return a;
     }
-    let t = sporadic::charge(s, k);
-    let q = a.pending;
     let b = Account {
-        server: t,
-        pending: q,
+        server: sporadic::charge(s, k),
+        ..a
     };
     print_account(p, b, false, now);
     end_line();
     b
 }
 
+// Whether the account can take what scheduling U adds.
+fn schedulable(p: Parameters, a: Account) -> bool
+    ensures { result ≡ true → Schedulable p a.server a.pending.count }
+{
+    a.server.activation <= LAST_TIME
+        && p.period <= MOST_TICKS
+        && usize::from(a.pending.count) < ENTRIES
+}
+
 fn limit(p: Parameters, a: Account, blocked: bool, now: u64) -> Account {
-    if 1000000000000000 < a.server.activation {
+    if !schedulable(p, a) {
         return a;
     }
-    if 1000000000 < p.period {
-        return a;
-    }
-    if (account::ENTRIES as u8) <= a.pending.count {
-        return a;
-    }
-    let o = account_moments::limit_reached(p, a, blocked, now);
-    print_outcome(p, o, blocked, now);
-    o.account
+    shown(
+        p,
+        account_moments::limit_reached(p, a, blocked, now),
+        blocked,
+        now,
+    )
 }
 
 fn block(p: Parameters, a: Account, blocked: bool, now: u64) -> Account {
-    if 1000000000000000 < a.server.activation {
+    if !schedulable(p, a) {
         return a;
     }
-    if 1000000000 < p.period {
-        return a;
-    }
-    if (account::ENTRIES as u8) <= a.pending.count {
-        return a;
-    }
-    let o = account::block(p, a, blocked, now);
-    print_outcome(p, o, true, now);
-    o.account
+    shown(p, account::block(p, a, blocked, now), true, now)
 }
 
 fn wake(p: Parameters, a: Account, blocked: bool, now: u64) -> Account {
-    let o = account::wake(p, a, blocked, now);
-    print_outcome(p, o, false, now);
-    o.account
+    shown(p, account::wake(p, a, blocked, now), false, now)
 }
 
 fn due(p: Parameters, a: Account, blocked: bool, now: u64) -> Account {
-    let o = account_returns::return_due(p, a, blocked, now);
-    print_outcome(p, o, blocked, now);
-    o.account
+    shown(
+        p,
+        account_returns::return_due(p, a, blocked, now),
+        blocked,
+        now,
+    )
 }
 
 // 01's worked replay, thread 0.
@@ -161,8 +135,7 @@ fn replay() {
     a = due(p, a, false, 40);
     a = run(p, a, 6, 46);
     a = limit(p, a, false, 46);
-    io::print_decimal(STDOUT_FILENO, account_moments::first_due(a.pending));
-    end_line();
+    last_number(account_moments::first_due(a.pending));
 }
 
 // 01's row: one replenishment at a time.
@@ -206,24 +179,16 @@ fn wake_and_block() {
     block(p, a, false, 7);
 }
 
-fn made(
-    capacity: u64,
-    used: u64,
-    activation: u64,
-    count: u8,
-    d: u64,
-    x: u64,
-    e: u64,
-    y: u64,
-) -> Account {
+// The account of a server with these numbers, with `count` entries: due and amount of the first two.
+fn made([capacity, used, activation]: [u64; 3], count: u8, [d, x, e, y]: [u64; 4]) -> Account {
     Account {
         server: Server {
-            capacity: capacity,
-            used: used,
-            activation: activation,
+            capacity,
+            used,
+            activation,
         },
         pending: Pending {
-            count: count,
+            count,
             dues: [d, e, 0, 0, 0, 0, 0, 0],
             amounts: [x, y, 0, 0, 0, 0, 0, 0],
         },
@@ -243,111 +208,115 @@ fn at_once() {
 fn returned() {
     title(b"returned while blocked, and while at the upper priority");
     let p = sporadic(10, 40, 2);
-    due(p, made(4, 0, 15, 1, 40, 6, 0, 0), true, 40);
-    due(p, made(4, 0, 15, 1, 40, 6, 0, 0), false, 40);
+    due(p, made([4, 0, 15], 1, [40, 6, 0, 0]), true, 40);
+    due(p, made([4, 0, 15], 1, [40, 6, 0, 0]), false, 40);
 }
 
 // Accounts that no sound state has.
 fn unsound_returned() {
     title(b"held at the budget; two due at one instant");
     let p = sporadic(10, 40, 2);
-    due(p, made(8, 0, 0, 1, 40, 6, 0, 0), true, 40);
-    due(p, made(0, 0, 0, 2, 40, 3, 40, 4), false, 40);
+    due(p, made([8, 0, 0], 1, [40, 6, 0, 0]), true, 40);
+    due(p, made([0, 0, 0], 2, [40, 3, 40, 4]), false, 40);
 }
 
 fn unsound_edges() {
     let p = sporadic(10, 40, 2);
     title(b"a wake with max_repl pending is at low");
-    wake(p, made(2, 0, 15, 2, 40, 4, 41, 4), true, 20);
+    wake(p, made([2, 0, 15], 2, [40, 4, 41, 4]), true, 20);
     title(b"a limit with nothing charged");
-    limit(p, made(0, 0, 15, 1, 40, 10, 0, 0), false, 20);
+    limit(p, made([0, 0, 15], 1, [40, 10, 0, 0]), false, 20);
 }
 
 // A rule that does not concern the thread leaves the account alone.
 fn unconcerned_limit() {
     title(b"a limit of a blocked thread, and of a runnable one");
     let p = sporadic(10, 40, 2);
-    limit(p, made(0, 10, 0, 0, 0, 0, 0, 0), true, 20);
-    limit(p, made(0, 10, 0, 0, 0, 0, 0, 0), false, 20);
+    limit(p, made([0, 10, 0], 0, [0, 0, 0, 0]), true, 20);
+    limit(p, made([0, 10, 0], 0, [0, 0, 0, 0]), false, 20);
 }
 
 fn unconcerned_block() {
     title(b"a block of a blocked thread, and of a runnable one");
     let p = sporadic(10, 40, 2);
-    block(p, made(6, 4, 0, 0, 0, 0, 0, 0), true, 20);
-    block(p, made(6, 4, 0, 0, 0, 0, 0, 0), false, 20);
+    block(p, made([6, 4, 0], 0, [0, 0, 0, 0]), true, 20);
+    block(p, made([6, 4, 0], 0, [0, 0, 0, 0]), false, 20);
 }
 
 fn unconcerned_wake() {
     title(b"a wake of a runnable thread, at upper and at low, and of a blocked one");
     let p = sporadic(10, 40, 2);
-    wake(p, made(4, 0, 15, 1, 40, 6, 0, 0), false, 20);
-    wake(p, made(2, 0, 15, 2, 40, 4, 41, 4), false, 20);
-    wake(p, made(4, 0, 15, 1, 40, 6, 0, 0), true, 20);
+    wake(p, made([4, 0, 15], 1, [40, 6, 0, 0]), false, 20);
+    wake(p, made([2, 0, 15], 2, [40, 4, 41, 4]), false, 20);
+    wake(p, made([4, 0, 15], 1, [40, 6, 0, 0]), true, 20);
 }
 
-// Whether the account of these numbers is sound, by a budget of 10 and a period of 40, from `start` on and at the time `now`.
-fn check(
-    max_repl: u8,
-    blocked: bool,
-    start: u64,
-    now: u64,
-    capacity: u64,
-    used: u64,
-    activation: u64,
-    count: u8,
-    d: u64,
-    x: u64,
-    e: u64,
-    y: u64,
-) {
-    let a = made(capacity, used, activation, count, d, x, e, y);
+// Whether the account is sound, by a budget of 10 and a period of 40, from `start` on and at the time `now`.
+fn check(max_repl: u8, blocked: bool, start: u64, now: u64, a: Account) {
     if account_sound::sound(sporadic(10, 40, max_repl), a, blocked, start, now) {
-        io::write_all(STDOUT_FILENO, b"sound ");
+        text(b"sound ");
     } else {
-        io::write_all(STDOUT_FILENO, b"unsound ");
+        text(b"unsound ");
     }
 }
 
 // Pairs on the two sides of each clause of soundness, a function for each clause.
 fn sum_sound() {
     title(b"sum is the budget");
-    check(2, false, 0, 15, 4, 0, 15, 1, 40, 6, 0, 0);
-    check(2, false, 0, 15, 5, 0, 15, 1, 40, 6, 0, 0);
-    check(2, false, 0, 15, 3, 0, 15, 1, 40, 6, 0, 0);
-    check(2, false, 0, 30, 18446744073709551615, 11, 15, 0, 0, 0, 0, 0);
-    check(2, false, 0, 30, 10, 18446744073709551615, 15, 0, 0, 0, 0, 0);
+    check(2, false, 0, 15, made([4, 0, 15], 1, [40, 6, 0, 0]));
+    check(2, false, 0, 15, made([5, 0, 15], 1, [40, 6, 0, 0]));
+    check(2, false, 0, 15, made([3, 0, 15], 1, [40, 6, 0, 0]));
+    check(
+        2,
+        false,
+        0,
+        30,
+        made([18446744073709551615, 11, 15], 0, [0, 0, 0, 0]),
+    );
+    check(
+        2,
+        false,
+        0,
+        30,
+        made([10, 18446744073709551615, 15], 0, [0, 0, 0, 0]),
+    );
     end_line();
 }
 
 fn used_sound() {
     title(b"U of a blocked or low thread is 0");
-    check(2, false, 0, 17, 2, 2, 15, 1, 40, 6, 0, 0);
-    check(2, true, 0, 17, 2, 2, 15, 1, 40, 6, 0, 0);
-    check(2, false, 0, 17, 1, 1, 15, 2, 40, 6, 41, 2);
-    check(2, false, 0, 17, 0, 2, 15, 1, 40, 8, 0, 0);
+    check(2, false, 0, 17, made([2, 2, 15], 1, [40, 6, 0, 0]));
+    check(2, true, 0, 17, made([2, 2, 15], 1, [40, 6, 0, 0]));
+    check(2, false, 0, 17, made([1, 1, 15], 2, [40, 6, 41, 2]));
+    check(2, false, 0, 17, made([0, 2, 15], 1, [40, 8, 0, 0]));
     end_line();
 }
 
 fn elapsed_sound() {
     title(b"U is at most now - activation");
-    check(2, false, 0, 16, 2, 2, 15, 1, 40, 6, 0, 0);
-    check(2, false, 0, 17, 2, 2, 18446744073709551615, 1, 40, 6, 0, 0);
+    check(2, false, 0, 16, made([2, 2, 15], 1, [40, 6, 0, 0]));
+    check(
+        2,
+        false,
+        0,
+        17,
+        made([2, 2, 18446744073709551615], 1, [40, 6, 0, 0]),
+    );
     end_line();
 }
 
 fn activation_sound() {
     title(b"activation from start to now");
-    check(2, false, 15, 15, 4, 0, 15, 1, 40, 6, 0, 0);
-    check(2, false, 16, 16, 4, 0, 15, 1, 40, 6, 0, 0);
-    check(2, false, 0, 14, 4, 0, 15, 1, 40, 6, 0, 0);
+    check(2, false, 15, 15, made([4, 0, 15], 1, [40, 6, 0, 0]));
+    check(2, false, 16, 16, made([4, 0, 15], 1, [40, 6, 0, 0]));
+    check(2, false, 0, 14, made([4, 0, 15], 1, [40, 6, 0, 0]));
     end_line();
 }
 
 fn dues_after_now() {
     title(b"dues after now");
-    check(2, true, 0, 39, 4, 0, 15, 1, 40, 6, 0, 0);
-    check(2, true, 0, 40, 4, 0, 15, 1, 40, 6, 0, 0);
+    check(2, true, 0, 39, made([4, 0, 15], 1, [40, 6, 0, 0]));
+    check(2, true, 0, 40, made([4, 0, 15], 1, [40, 6, 0, 0]));
     end_line();
 }
 
@@ -355,41 +324,47 @@ fn dues_in_the_window() {
     title(
         b"dues at most 1,000,000,000 ticks after now, past now + period and past activation + period too",
     );
-    check(2, true, 0, 15, 4, 0, 10, 1, 55, 6, 0, 0);
-    check(2, false, 0, 15, 4, 0, 10, 1, 50, 6, 0, 0);
-    check(2, true, 0, 15, 4, 0, 10, 1, 1000000015, 6, 0, 0);
-    check(2, true, 0, 15, 4, 0, 10, 1, 1000000016, 6, 0, 0);
-    check(2, true, 0, 15, 4, 0, 10, 1, 18446744073709551615, 6, 0, 0);
+    check(2, true, 0, 15, made([4, 0, 10], 1, [55, 6, 0, 0]));
+    check(2, false, 0, 15, made([4, 0, 10], 1, [50, 6, 0, 0]));
+    check(2, true, 0, 15, made([4, 0, 10], 1, [1000000015, 6, 0, 0]));
+    check(2, true, 0, 15, made([4, 0, 10], 1, [1000000016, 6, 0, 0]));
+    check(
+        2,
+        true,
+        0,
+        15,
+        made([4, 0, 10], 1, [18446744073709551615, 6, 0, 0]),
+    );
     end_line();
 }
 
 fn dues_in_order() {
     title(b"dues don't fall");
-    check(2, true, 0, 20, 2, 0, 15, 2, 40, 4, 41, 4);
-    check(2, true, 0, 20, 2, 0, 15, 2, 40, 4, 40, 4);
-    check(2, true, 0, 20, 2, 0, 15, 2, 41, 4, 40, 4);
+    check(2, true, 0, 20, made([2, 0, 15], 2, [40, 4, 41, 4]));
+    check(2, true, 0, 20, made([2, 0, 15], 2, [40, 4, 40, 4]));
+    check(2, true, 0, 20, made([2, 0, 15], 2, [41, 4, 40, 4]));
     end_line();
 }
 
 fn amounts_sound() {
     title(b"amounts at least 1");
-    check(2, true, 0, 20, 4, 0, 15, 2, 40, 6, 41, 0);
+    check(2, true, 0, 20, made([4, 0, 15], 2, [40, 6, 41, 0]));
     end_line();
 }
 
 fn count_sound() {
     title(b"count at most max_repl, and at most the places");
-    check(1, true, 0, 20, 2, 0, 15, 2, 40, 4, 41, 4);
-    check(255, true, 0, 20, 2, 0, 15, 9, 40, 4, 41, 4);
-    check(255, true, 0, 20, 2, 0, 15, 255, 40, 4, 41, 4);
+    check(1, true, 0, 20, made([2, 0, 15], 2, [40, 4, 41, 4]));
+    check(255, true, 0, 20, made([2, 0, 15], 9, [40, 4, 41, 4]));
+    check(255, true, 0, 20, made([2, 0, 15], 255, [40, 4, 41, 4]));
     end_line();
 }
 
 fn places_sound() {
     title(b"places past the count hold 0");
-    check(2, false, 0, 15, 4, 0, 15, 1, 40, 6, 7, 0);
-    check(2, false, 0, 15, 4, 0, 15, 1, 40, 6, 0, 7);
-    check(2, false, 0, 15, 10, 0, 15, 0, 1, 0, 0, 0);
+    check(2, false, 0, 15, made([4, 0, 15], 1, [40, 6, 7, 0]));
+    check(2, false, 0, 15, made([4, 0, 15], 1, [40, 6, 0, 7]));
+    check(2, false, 0, 15, made([10, 0, 15], 0, [1, 0, 0, 0]));
     end_line();
 }
 

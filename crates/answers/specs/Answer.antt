@@ -25,5 +25,9 @@ unread status s = record { status = status; running = 255; next = 0; state = s }
 abbrev pub replied : Reply → State → sequence.Answer State
 replied r s = record { status = r.status; running = r.running; next = r.next; state = s }
 
+-- an answer taken apart
+abbrev pub done_of : Answer → Done
+done_of r = record { core = r.core; reply = record { status = r.status; running = r.running; next = r.next } }
+
 abbrev pub done : Done → List ℕ → List ℕ → sequence.Answer State
 done d dues amounts = replied d.reply (whole d.core dues amounts)

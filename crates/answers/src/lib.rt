@@ -2,11 +2,12 @@
 #![tactic(auto)]
 
 ghost use Rattle.std.specs.Prelude.{◌≡◌};
-ghost use Rattle.answers.specs.Answer.{parts_of};
+ghost use Rattle.answers.specs.Answer.{parts_of, done_of};
 
 use state::Core;
 
-// Status, the running thread or 255, the next moment or 0, and the state without its slots.
+// Status, the running thread or 255, the next moment or 0, and the state without its slots. Numbers and no `Result` or `Option`s, here and in
+// `Reply`: C gets them.
 #[repr(C)]
 #[derive(Clone, Copy)]
 pub struct Answer {
@@ -33,14 +34,29 @@ pub struct Done {
     pub reply: Reply,
 }
 
+impl From<Answer> for Done {
+    ghost from_gives = { λ answer done. done ≡ done_of answer };
+
+    fn from(answer: Answer) -> Done {
+        Done {
+            core: answer.core,
+            reply: Reply {
+                status: answer.status,
+                running: answer.running,
+                next: answer.next,
+            },
+        }
+    }
+}
+
 // An answer of these parts: no other function lists its fields.
 pub fn answer_of(status: u8, running: u8, next: u64, c: Core) -> Answer
     ensures { result ≡ parts_of status running next c }
 {
     Answer {
-        status: status,
-        running: running,
-        next: next,
+        status,
+        running,
+        next,
         core: c,
     }
 }

@@ -1,42 +1,43 @@
-// What any crate may use: the status numbers, and a byte as an index. No rule.
+// What any crate may use: why an input is refused. No rule.
 #![tactic(auto)]
 
 ghost use Rattle.std.specs.Prelude.{◌≡◌};
+ghost use Rattle.base.specs.Status.{number_of, as_status};
 
-// The status numbers in the order of 01's table; 0 is accepted.
-pub const BEFORE_NOW: u8 = 1;
+// Why an input is refused, in the order of 01's table.
+#[derive(Clone, Copy, Debug, PartialEq, Eq)]
+pub enum Refusal {
+    BeforeNow = 1,
+    StepTooLong = 2,
+    PastLastTime = 3,
+    WrongKind = 4,
+    WrongThread = 5,
+    WrongParameters = 6,
+    NothingRuns = 7,
+    NotBlocked = 8,
+    NotSound = 9,
+    TooShort = 10,
+    WrongHeader = 11,
+    NoRoom = 12,
+    WrongFiller = 13,
+    WrongText = 14,
+    NotCarried = 15,
+}
 
-pub const STEP_TOO_LONG: u8 = 2;
+impl From<Refusal> for u8 {
+    ghost from_gives = { λ refusal number. number ≡ number_of refusal };
 
-pub const PAST_LAST_TIME: u8 = 3;
+    fn from(refusal: Refusal) -> u8 {
+        refusal as u8
+    }
+}
 
-pub const WRONG_KIND: u8 = 4;
-
-pub const WRONG_THREAD: u8 = 5;
-
-pub const WRONG_PARAMETERS: u8 = 6;
-
-pub const NOTHING_RUNS: u8 = 7;
-
-pub const NOT_BLOCKED: u8 = 8;
-
-pub const NOT_SOUND: u8 = 9;
-
-pub const TOO_SHORT: u8 = 10;
-
-pub const WRONG_HEADER: u8 = 11;
-
-pub const NO_ROOM: u8 = 12;
-
-pub const WRONG_FILLER: u8 = 13;
-
-pub const WRONG_TEXT: u8 = 14;
-
-pub const NOT_CARRIED: u8 = 15;
-
-// A byte as an index.
-pub fn wide(x: u8) -> usize
-    ensures { result ≡ x }
+// The status of an answer: 0 where nothing is refused.
+pub fn as_status<T: Copy>(answer: Result<T, Refusal>) -> u8
+    ensures { result ≡ as_status answer }
 {
-    x as usize
+    match answer {
+        Ok(_) => 0,
+        Err(refusal) => u8::from(refusal),
+    }
 }

@@ -9,36 +9,13 @@ ghost use Rattle.passing.specs.Sequence.{answer};
 ghost use Rattle.state.specs.Updates.{whole};
 ghost use Rattle.events.specs.Answers.{executive};
 ghost use Rattle.events.specs.Reports.{event_numbers};
-ghost use Rattle.answers.specs.Answer.{replied, done};
+ghost use Rattle.answers.specs.Answer.{replied};
 
 use answers::{Done, Reply};
 use records::Event;
 use reports::NUMBERS;
 use rows::Slots;
 use state::Core;
-
-// An event for a core by value.
-fn event_done(
-    c: Core,
-    dues: &mut Slots,
-    amounts: &mut Slots,
-    told: &mut [u64; NUMBERS],
-    e: Event,
-) -> Done
-    ensures { (done result dues.new amounts.new ≡ answer executive (whole c dues.old amounts.old) e)
-        × (told.new ≡ event_numbers (whole c dues.old amounts.old) e) }
-{
-    let a = executive::event(c, dues, amounts, told, e);
-    let core = a.core;
-    Done {
-        core: core,
-        reply: Reply {
-            status: a.status,
-            running: a.running,
-            next: a.next,
-        },
-    }
-}
 
 // An event for a lent state, which is left as the answer says, with what happened told in the lent numbers, whatever they held.
 #[unsafe(no_mangle)]
@@ -52,7 +29,7 @@ pub extern "C" fn thawonlai_event(
     ensures { (replied result (whole core.new dues.new amounts.new) ≡ answer executive (whole core.old dues.old amounts.old) e)
         × (told.new ≡ event_numbers (whole core.old dues.old amounts.old) e) }
 {
-    let d = event_done(*core, dues, amounts, told, e);
+    let d = Done::from(executive::event(*core, dues, amounts, told, e));
     *core = d.core;
     d.reply
 }

@@ -32,21 +32,14 @@ pub extern "C" fn thawonlai_open(
 ) -> Answer
     ensures { answer_of result dues.new amounts.new ≡ opening header table.threads }
 {
-    let threads = table.threads;
-    opening::open(header, threads, dues, amounts)
+    opening::open(header, table.threads, dues, amounts)
 }
 
 // 1 where a core by value is a sound state with its slots, else 0.
 fn sound_number<'a>(c: Core, dues: &'a Slots, amounts: &'a Slots) -> u8
     ensures { result ≡ cond (sound_state (whole c dues.now amounts.now)) 1 0 }
 {
-    // lent as slices, so that their lengths are known
-    rows::slots(dues);
-    rows::slots(amounts);
-    if state_sound::sound(c, dues, amounts) {
-        return 1;
-    }
-    0
+    u8::from(state_sound::sound(c, dues, amounts))
 }
 
 // 1 where a lent state is sound, else 0.

@@ -21,15 +21,13 @@ pub extern "C" fn thawonlai_replay(
     ensures { answer_of result dues.new amounts.new ≡ replay_of file.now count }
 {
     let begun = replay_begin::begin(file, dues, amounts);
-    let answer = begun.answer;
     if begun.status != 0 {
-        let core = answer.core;
         return Answer {
             status: begun.status,
             running: 255,
             next: 0,
-            core,
+            core: begun.answer.core,
         };
     }
-    replay_steps::last_answer(answer, dues, amounts, file, begun.offset, count)
+    replay_steps::last_answer(begun.answer, dues, amounts, file, begun.offset, count)
 }

@@ -7,7 +7,7 @@
 ghost use Rattle.std.specs.Prelude.{◌≡◌, ◌<◌};
 ghost use Rattle.board_search.specs.Answer.{found_of, refused_search, search_answer};
 
-use base::WRONG_THREAD;
+use base::Refusal;
 use due_search::Due;
 use records::THREADS;
 use rows::SLOTS;
@@ -21,7 +21,7 @@ pub struct NextDue {
     pub due: u64,
 }
 
-// A due that was found, or none.
+// A due that was found, or none. No `From`: it asks that the thread's number fits a byte.
 fn found(x: Due) -> NextDue
     requires { x.thread < 256 }
     ensures { result ≡ found_of x }
@@ -38,7 +38,7 @@ fn refused() -> NextDue
     ensures { result ≡ refused_search }
 {
     NextDue {
-        status: WRONG_THREAD,
+        status: u8::from(Refusal::WrongThread),
         thread: THREADS as u8,
         due: 0,
     }

@@ -36,7 +36,7 @@ pub struct SummaryReply {
     pub smallest: f64,
 }
 
-// The share of a thread in numbers, for a core by value.
+// The share of a thread in numbers, for a core by value. No `From`: the pages name this function.
 fn share_numbers<'a>(c: Core, dues: &'a Slots, amounts: &'a Slots, thread: u8) -> ShareReply
     ensures { result ≡ share_reply (share_of (whole c dues.now amounts.now) thread) }
 {
@@ -86,7 +86,7 @@ fn no_summary(form: u8, status: u8) -> SummaryReply
     }
 }
 
-// The summary in numbers, for a core by value.
+// The summary in numbers, for a core by value. No `From`: the pages name this function.
 fn summary_numbers<'a>(c: Core, dues: &'a Slots, amounts: &'a Slots) -> SummaryReply
     ensures { result ≡ summary_reply (summarized_of (whole c dues.now amounts.now)) }
 {

@@ -13,6 +13,7 @@ use trace::Written;
 use trace_records::EVENTS;
 
 // What a read finds: the status, the number of threads, the start time and the number of events.
+// a number and no Result: C gets it
 #[repr(C)]
 #[derive(Clone, Copy)]
 pub struct Found {
@@ -47,9 +48,7 @@ pub extern "C" fn thawonlai_write(
     ensures value { result ≡ written_of header count (length out.old) }
     ensures out_after { out.new ≡ out_of header table.threads count events.events out.old }
 {
-    let threads = table.threads;
-    let all = events.events;
-    trace_write::write(header, threads, count, all, out)
+    trace_write::write(header, table.threads, count, events.events, out)
 }
 
 // Reads a trace file: its header and the number of its events.
@@ -58,11 +57,10 @@ pub extern "C" fn thawonlai_read(file: &[u8]) -> Found
     ensures { result ≡ found_in file.now }
 {
     let c = trace_read::read(file);
-    let header = c.header;
     Found {
         status: c.status,
-        n: header.n,
-        start: header.start,
+        n: c.header.n,
+        start: c.header.start,
         count: c.count,
     }
 }

@@ -6,9 +6,10 @@ ghost use Rattle.ledger.specs.Bound.{most_upper};
 ghost use Rattle.bound.specs.Most.{sporadic_thread, most_of};
 
 use account::ENTRIES;
-use records::Parameters;
+use base::Refusal;
+use records::{Parameters, SCHED_SPORADIC};
 
-// The status, and the most ticks; 0 where the status is not 0.
+// The status, and the most ticks; 0 where the status is not 0. A number and no `Result`: C gets it.
 #[repr(C)]
 #[derive(Clone, Copy)]
 pub struct Most {
@@ -20,13 +21,7 @@ pub struct Most {
 fn sporadic_thread(p: Parameters) -> bool
     ensures { result ≡ sporadic_thread p }
 {
-    if p.policy != 2 {
-        return false;
-    }
-    if 1 < p.flag {
-        return false;
-    }
-    records::in_range(p, ENTRIES as u8)
+    p.policy == SCHED_SPORADIC && p.flag <= 1 && records::in_range(p, ENTRIES as u8)
 }
 
 // Two budgets for each stretch that is begun, and never more than the length. Those of the whole stretches are no more than the length, and
@@ -58,7 +53,7 @@ pub fn most_of(p: Parameters, length: u64) -> Most
         };
     }
     Most {
-        status: base::WRONG_PARAMETERS,
+        status: u8::from(Refusal::WrongParameters),
         ticks: 0,
     }
 }

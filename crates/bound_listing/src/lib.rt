@@ -7,7 +7,7 @@ ghost use Rattle.text.specs.Placed.{Put};
 ghost use Rattle.listing.specs.Lines.{thread_word, refused_line};
 ghost use Rattle.bound_listing.specs.BoundListing.{bound_line, bound_lines, bound_listing, line_most, largest};
 
-use records::{Parameters, THREADS};
+use records::{Parameters, SCHED_SPORADIC, THREADS};
 use text::put_word;
 use text_fields::put_field;
 
@@ -32,7 +32,7 @@ fn put_line(out: &mut [u8], at: usize, i: u64, p: Parameters, ticks: u64) -> usi
     ensures put { Put out.old at (bound_line i p ticks) out.new result }
     ensures upper_bound { result ≤ at + line_most }
 {
-    if p.policy != 2 {
+    if p.policy != SCHED_SPORADIC {
         return at;
     }
     let m = bound::most_of(p, ticks);
@@ -40,17 +40,14 @@ fn put_line(out: &mut [u8], at: usize, i: u64, p: Parameters, ticks: u64) -> usi
 }
 
 // The lines of a table, from the buffer's start on.
-fn put_lines(out: &mut [u8], table: [Parameters; THREADS], ticks: u64) -> usize
+fn put_lines(out: &mut [u8], table: &[Parameters; THREADS], ticks: u64) -> usize
     requires { largest ≤ length out.old }
-    ensures put { Put out.old 0 (bound_lines table ticks) out.new result }
+    ensures put { Put out.old 0 (bound_lines table.now ticks) out.new result }
     ensures upper_bound { result ≤ largest }
 {
     let mut here = 0;
-    let mut i = 0;
-    while i < THREADS {
-        let p = table[i];
-        here = put_line(out, here, i as u64, p, ticks);
-        i += 1;
+    for i in 0..THREADS {
+        here = put_line(out, here, i as u64, table[i], ticks);
     }
     here
 }
@@ -66,8 +63,7 @@ fn put_listing(out: &mut [u8], file: &[u8], ticks: u64) -> usize
         return refusal_line::put_refusal(out, status);
     }
     let contents = trace_read::read(file);
-    let table = contents.table;
-    put_lines(out, table, ticks)
+    put_lines(out, &contents.table, ticks)
 }
 
 // Puts the lines of a file at a buffer's start, with zeros after them, whatever it held; how many bytes they are.

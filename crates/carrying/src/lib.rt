@@ -27,16 +27,13 @@ fn goes_up(
     requires { capacity ≡ carried_capacity old new s.capacity }
     ensures { result ≡ goes_up blocked old new count s }
 {
-    if blocked {
-        return false;
-    }
-    if sporadic::at_upper(old, s.capacity, count) {
-        return false;
-    }
-    sporadic::at_upper(new, capacity, count)
+    !blocked
+        && !sporadic::at_upper(old, s.capacity, count)
+        && sporadic::at_upper(new, capacity, count)
 }
 
 // Capacity, U and the activation time under the new parameters, with `count` entries pending.
+#[tactic(auto, unfolding(sporadic::specs::Carry::carried_server))]
 pub fn carry_server(
     old: Parameters,
     new: Parameters,
@@ -51,50 +48,33 @@ pub fn carry_server(
     let capacity = s.capacity + new.budget - old.budget;
     if goes_up(old, new, s, capacity, count, blocked) {
         return Server {
-            capacity: capacity,
-            used: s.used,
+            capacity,
             activation: now,
+            ..s
         };
     }
-    Server {
-        capacity: capacity,
-        used: s.used,
-        activation: s.activation,
-    }
+    Server { capacity, ..s }
 }
 
 // Whether the budget falls by at least the capacity.
 fn budget_too_small(old: Parameters, new: Parameters, capacity: u64) -> bool
     ensures { result ≡ budget_too_small old new capacity }
 {
-    if old.budget <= new.budget {
-        return false;
-    }
-    capacity <= old.budget - new.budget
+    new.budget < old.budget && capacity <= old.budget - new.budget
 }
 
 // Whether too many entries pend for the new max_repl. `up`: runnable at the upper priority.
 fn too_many_pending(up: bool, new: Parameters, count: u8) -> bool
     ensures { result ≡ too_many_pending up new count }
 {
-    if new.max_repl < count {
-        return true;
-    }
-    if new.max_repl == count {
-        return up;
-    }
-    false
+    new.max_repl < count || (new.max_repl == count && up)
 }
 
 // Whether the set is refused with 15.
+#[tactic(auto, unfolding(sporadic::specs::Carry::cant_carry))]
 pub fn cant_carry(old: Parameters, new: Parameters, capacity: u64, count: u8, blocked: bool) -> bool
     ensures { result ≡ cant_carry blocked old new capacity count }
 {
-    if budget_too_small(old, new, capacity) {
-        return true;
-    }
-    if blocked {
-        return too_many_pending(false, new, count);
-    }
-    too_many_pending(sporadic::at_upper(old, capacity, count), new, count)
+    let up = !blocked && sporadic::at_upper(old, capacity, count);
+    budget_too_small(old, new, capacity) || too_many_pending(up, new, count)
 }

@@ -2,8 +2,9 @@
 // writes how it ended to descriptor 3, and `bin/thawonlai` exits with it.
 #![tactic(auto)]
 
-ghost use Rattle.std.specs.Prelude.{IfOk};
+ghost use Rattle.std.specs.Prelude.{◌≡◌, IfOk};
 ghost use Rattle.io.specs.Counts.{IsPrefixLen};
+ghost use Rattle.command.specs.Ends.{number_of, status_of};
 
 use std::env::{Env, FillError};
 use std::fs;
@@ -11,10 +12,24 @@ use std::io::{Error, Read, Write};
 use std::rt::Files;
 use std::str::from_utf8;
 
-// The three ends of a command.
-pub const DONE: u8 = 0;
+// How a command ends that has not failed.
+#[derive(Clone, Copy, Debug, PartialEq, Eq)]
+pub enum Ending {
+    Done = 0,
+    Refused = 1,
+}
 
-pub const REFUSED: u8 = 1;
+impl From<Ending> for u8 {
+    ghost from_gives = { λ ending status. status ≡ number_of ending };
+
+    fn from(ending: Ending) -> u8 {
+        ending as u8
+    }
+}
+
+// A failure that was said on the standard error. A command that failed ends with FAILED.
+#[derive(Clone, Copy, Debug, PartialEq, Eq)]
+pub struct Told;
 
 pub const FAILED: u8 = 2;
 
@@ -29,18 +44,6 @@ const EINVAL: i32 = 22;
 const ENAMETOOLONG: i32 = 36;
 
 const EILSEQ: i32 = 84;
-
-// Whether an input was read without a failure, and how many bytes of it.
-#[derive(Clone, Copy)]
-pub struct Input {
-    pub whole: bool,
-    pub length: usize,
-}
-
-const UNREAD: Input = Input {
-    whole: false,
-    length: 0,
-};
 
 // How many bytes of an error's text are its own words: the system's errors end in ` (os error N)`.
 fn words(e: &Error, length: usize) -> usize {
@@ -73,9 +76,7 @@ fn read_all<R: Read>(input: &mut R, buffer: &mut [u8]) -> Result<usize, Error>
     ensures { IfOk result (λ n. IsPrefixLen n buffer.new) }
 {
     let mut length = 0;
-    let mut turns = buffer.len();
-    while 0 < turns {
-        turns -= 1;
+    for _turn in 0..buffer.len() {
         let got = input.read(&mut buffer[length..])?;
         if got == 0 {
             return Ok(length);
@@ -85,28 +86,10 @@ fn read_all<R: Read>(input: &mut R, buffer: &mut [u8]) -> Result<usize, Error>
     Ok(length)
 }
 
-// The same, and a failure is named on the standard error.
-fn read_named<R: Read>(input: &mut R, name: &[u8], buffer: &mut [u8]) -> Input
-    ensures { IsPrefixLen result.length buffer.new }
-{
-    match read_all(input, buffer) {
-        Ok(length) => Input {
-            whole: true,
-            length,
-        },
-        Err(e) => {
-            fail(name, &e);
-            UNREAD
-        }
-    }
-}
-
-// Whether a name is `-`, which stands for the standard input.
-fn is_dash(name: &[u8]) -> bool {
-    if name.len() != 1 {
-        return false;
-    }
-    name[0] == b'-'
+// Says what failed and why.
+fn tell(what: &[u8], e: &Error) -> Told {
+    fail(what, e);
+    Told
 }
 
 // The file of this name.
@@ -118,16 +101,11 @@ fn open<R: Files>(rt: &R, name: &[u8]) -> Result<R::File, Error> {
 }
 
 // The file of this name, to its end or until the buffer is full.
-fn read_file(rt: &impl Files, name: &[u8], buffer: &mut [u8]) -> Input
-    ensures { IsPrefixLen result.length buffer.new }
+fn read_file(rt: &impl Files, name: &[u8], buffer: &mut [u8]) -> Result<usize, Error>
+    ensures { IfOk result (λ n. IsPrefixLen n buffer.new) }
 {
-    match open(rt, name) {
-        Ok(mut file) => read_named(&mut file, name, buffer),
-        Err(e) => {
-            fail(name, &e);
-            UNREAD
-        }
-    }
+    let mut file = open(rt, name)?;
+    read_all(&mut file, buffer)
 }
 
 // Why an argument could not be had.
@@ -138,47 +116,66 @@ pub fn argument_error(e: FillError) -> Error {
     }
 }
 
-// Reads the input that argument i names, to its end or until the buffer is full: a file, or the standard input where it is `-`. What
-// can't be opened or read is named on the standard error.
-pub fn read_input(rt: &(impl Env + Files + std::io::Input), i: usize, buffer: &mut [u8]) -> Input
-    ensures { IsPrefixLen result.length buffer.new }
+// Reads the input that argument i names, to its end or until the buffer is full, and answers how many bytes it read: a file, or the
+// standard input where the argument is `-`.
+pub fn read_input(
+    rt: &(impl Env + Files + std::io::Input),
+    i: usize,
+    buffer: &mut [u8],
+) -> Result<usize, Told>
+    ensures { IfOk result (λ n. IsPrefixLen n buffer.new) }
 {
     let mut name = io::buffer();
-    match rt.arg(i, &mut name) {
-        Ok(length) => {
-            if is_dash(&name[..length]) {
-                return read_named(&mut rt.reader(), b"standard input", buffer);
-            }
-            read_file(rt, &name[..length], buffer)
-        }
-        Err(e) => {
-            fail(b"argument", &argument_error(e));
-            UNREAD
-        }
+    let length = rt
+        .arg(i, &mut name)
+        .map_err(|e| tell(b"argument", &argument_error(e)))?;
+    let name = &name[..length];
+    if name == b"-".as_slice() {
+        return read_all(&mut rt.reader(), buffer).map_err(|e| tell(b"standard input", &e));
     }
+    read_file(rt, name, buffer).map_err(|e| tell(name, &e))
 }
 
-// Writes all of some bytes to the standard output. That it failed is said on the standard error.
-pub fn write_all(rt: &impl Print, bytes: &[u8]) -> bool {
-    match rt.write_all(bytes) {
-        Ok(()) => true,
-        Err(e) => {
-            fail(b"standard output", &e);
-            false
-        }
-    }
+// Writes all of some bytes to the standard output.
+pub fn write_all(rt: &impl Print, bytes: &[u8]) -> Result<(), Told> {
+    rt.write_all(bytes)
+        .map_err(|e| tell(b"standard output", &e))
 }
 
 // Says how the program ended. Where descriptor 3 is closed, nobody asked.
 pub fn end(status: u8) {
-    io::print_decimal(STATUS_FILENO, status as u64);
+    io::print_decimal(STATUS_FILENO, u64::from(status));
     io::write_all(STATUS_FILENO, b"\n");
+}
+
+// The exit status of a command.
+pub fn status_of(ended: Result<Ending, Told>) -> u8
+    ensures { result ≡ status_of ended }
+{
+    match ended {
+        Ok(ending) => u8::from(ending),
+        Err(Told) => FAILED,
+    }
+}
+
+// Runs a command on the input that argument 1 names, of which the buffer takes the start, and says how it ended.
+pub fn run_on_input<
+    R: Env + Files + std::io::Input,
+    Command: FnOnce(&R, &[u8]) -> Result<Ending, Told>,
+>(rt: &R, buffer: &mut [u8], command: Command)
+    requires { Command.IsAlwaysCallable command }
+{
+    let ended = match read_input(rt, 1, buffer) {
+        Ok(length) => command(rt, &buffer[..length]),
+        Err(e) => Err(e),
+    };
+    end(status_of(ended));
 }
 
 // Says on the standard error that an input is refused, and in which of its lines; a refusal that is no line's has line 0.
 pub fn refuse(status: u8, line: usize) {
     io::write_all(STDERR_FILENO, b"refused ");
-    io::print_decimal(STDERR_FILENO, status as u64);
+    io::print_decimal(STDERR_FILENO, u64::from(status));
     io::write_all(STDERR_FILENO, b" line ");
     io::print_decimal(STDERR_FILENO, line as u64);
     io::write_all(STDERR_FILENO, b"\n");

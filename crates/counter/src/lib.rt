@@ -32,7 +32,7 @@ fn elapsed_ticks(now: u64, reading: u32) -> u32
     ensures { result ≡ elapsed_ticks now reading }
 {
     let low = (now % WRAPS_AT) as u32;
-    std::num::wrapping_sub_u32(reading, low)
+    reading.wrapping_sub(low)
 }
 
 // The time now plus the elapsed ticks. A time now that no sound state has is left as it is, so that no sum wraps: such a state is
@@ -43,7 +43,7 @@ fn guarded_time(now: u64, reading: u32) -> u64
     if LAST_TIME < now {
         return now;
     }
-    now + elapsed_ticks(now, reading) as u64
+    now + u64::from(elapsed_ticks(now, reading))
 }
 
 // An event for any state, its time a reading. What happened while time passed is told in the lent numbers, whatever they held.
@@ -57,12 +57,11 @@ pub fn event(
     ensures amounts_after { answer_of result dues.new amounts.new ≡ counter_answer (whole c dues.old amounts.old) e }
     ensures numbers { told.new ≡ counter_numbers (whole c dues.old amounts.old) e }
 {
-    let parameters = e.parameters;
     let timed = Event {
         time: guarded_time(c.now, e.reading),
         kind: e.kind,
         thread: e.thread,
-        parameters: parameters,
+        parameters: e.parameters,
     };
     executive::event(c, dues, amounts, told, timed)
 }

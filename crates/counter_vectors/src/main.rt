@@ -1,65 +1,42 @@
 // Runs stored cases of events at a reading of the counter: prints the time now and the reading; the status, the running thread and the
 // next moment; the time then, and the four numbers that are told of thread 0. The expected output is the file stdout, written from 01 and
 // 02 alone.
+// A case is a function of its own: its title and its numbers.
 #![tactic(auto)]
 
 use counter::CounterEvent;
-use records::{Header, Parameters, THREADS};
+use records::{Header, LAST_TIME, Parameters, SCHED_RR, THREADS};
 use reports::NUMBERS;
 use rows::SLOTS;
+use trace_records::NO_PARAMETERS;
+use vector_lines::{last_number, number, title};
 
-const STDOUT_FILENO: i32 = 1;
-
-// A time shortly before the counter wraps, and times far from it.
+// A time shortly before the counter wraps, and one far from it.
 const BEFORE_WRAP: u64 = 4294467296;
 
 const EARLY: u64 = 1000;
 
-const LAST_TIME: u64 = 1000000000000000;
-
-const LARGEST: u64 = 18446744073709551615;
-
-fn title(text: &[u8]) {
-    io::write_all(STDOUT_FILENO, text);
-    io::write_all(STDOUT_FILENO, b"\n");
-}
-
-fn number(n: u64) {
-    io::print_decimal(STDOUT_FILENO, n);
-    io::write_all(STDOUT_FILENO, b" ");
-}
-
-fn none() -> Parameters {
-    Parameters {
-        policy: 0,
-        priority: 0,
-        low: 0,
-        max_repl: 0,
-        flag: 0,
-        budget: 0,
-        period: 0,
-    }
-}
-
 fn fifo(priority: u8) -> Parameters {
-    let mut p = none();
-    p.priority = priority;
-    p
+    Parameters {
+        priority,
+        ..NO_PARAMETERS
+    }
 }
 
 // Thread 0 is RR with a quantum of 300,000 ticks, and runs where the flag is 1; thread 1 is blocked below it.
 fn threads(flag: u32) -> [Parameters; THREADS] {
-    let mut table = [none(); THREADS];
-    let mut first = fifo(10);
-    first.policy = 1;
-    first.flag = flag;
-    first.budget = 300000;
-    table[0] = first;
+    let mut table = [NO_PARAMETERS; THREADS];
+    table[0] = Parameters {
+        policy: SCHED_RR,
+        flag,
+        budget: 300000,
+        ..fifo(10)
+    };
     table[1] = fifo(5);
     table
 }
 
-// What is printed of an answer.
+// What is printed of an answer: its numbers, as C gets them.
 #[derive(Clone, Copy)]
 struct Shown {
     status: u8,
@@ -83,38 +60,35 @@ fn answer(flag: u32, start: u64, now: u64, e: CounterEvent) -> Shown {
     let mut c = opened.core;
     c.now = now;
     let a = counter::event(c, &mut dues, &mut amounts, &mut told, e);
-    let after = a.core;
     Shown {
         status: a.status,
         running: a.running,
         next: a.next,
-        now: after.now,
+        now: a.core.now,
         told: [told[0], told[1], told[2], told[3]],
     }
 }
 
 fn print(now: u64, reading: u32, s: Shown) {
     number(now);
-    number(reading as u64);
-    number(s.status as u64);
-    number(s.running as u64);
+    number(u64::from(reading));
+    number(u64::from(s.status));
+    number(u64::from(s.running));
     number(s.next);
     number(s.now);
     number(s.told[0]);
     number(s.told[1]);
     number(s.told[2]);
-    io::print_decimal(STDOUT_FILENO, s.told[3]);
-    title(b"");
+    last_number(s.told[3]);
 }
 
 // An event with the parameters of a FIFO thread, or with none where the priority is 0.
 fn show_with(now: u64, kind: u8, reading: u32, thread: u8, priority: u8) {
-    let parameters = fifo(priority);
     let e = CounterEvent {
         reading,
         kind,
         thread,
-        parameters,
+        parameters: fifo(priority),
     };
     print(now, reading, answer(1, now, now, e));
 }
@@ -125,12 +99,11 @@ fn show(now: u64, kind: u8, reading: u32, thread: u8) {
 
 // An event on a state in which nothing runs where the flag is 0, and which isn't sound where `now` is not the start.
 fn show_on(flag: u32, start: u64, now: u64, kind: u8, reading: u32) {
-    let parameters = none();
     let e = CounterEvent {
         reading,
         kind,
         thread: 0,
-        parameters,
+        parameters: NO_PARAMETERS,
     };
     print(now, reading, answer(flag, start, now, e));
 }
@@ -163,10 +136,10 @@ fn unsound() {
     title(
         b"no sound state: the largest time now, with a step of 0, of 1, back by one, a wrong kind",
     );
-    show_on(1, 0, LARGEST, 0, 4294967295);
-    show_on(1, 0, LARGEST, 0, 0);
-    show_on(1, 0, LARGEST, 0, 4294967294);
-    show_on(1, 0, LARGEST, 5, 0);
+    show_on(1, 0, u64::MAX, 0, 4294967295);
+    show_on(1, 0, u64::MAX, 0, 0);
+    show_on(1, 0, u64::MAX, 0, 4294967294);
+    show_on(1, 0, u64::MAX, 5, 0);
 }
 
 fn refused() {

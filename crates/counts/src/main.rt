@@ -2,7 +2,7 @@
 // trace can't be replayed, or failed where it can't be read or the lines can't be written.
 #![tactic(auto)]
 
-ghost use Rattle.std.specs.Prelude.{◌≡◌, true, cond, ◌≤◌, eqb, length};
+ghost use Rattle.std.specs.Prelude.{◌≡◌, true, cond, ◌≤◌, eqb, length, IfOk};
 ghost use Rattle.records.specs.Ranges.{most_threads};
 ghost use Rattle.trace_records.specs.Layout.{most_events};
 ghost use Rattle.state.specs.Sound.{sound_state};
@@ -10,52 +10,49 @@ ghost use Rattle.state.specs.Updates.{whole};
 ghost use Rattle.replay_steps.specs.FileSteps.{begun_of, end_from};
 ghost use Rattle.counts_text.specs.Room.{room};
 ghost use Rattle.counts_steps.specs.CountSteps.{sums_from};
+ghost use Rattle.command.specs.Ends.{number_of};
 
+use command::{Ending, Told};
 use counts_text::ROOM;
 use reports::NUMBERS;
 use rows::{SLOTS, Slots};
 use state::Core;
 use trace_records::EVENTS;
 
-// Writes the first bytes of a buffer; that it failed is said on the standard error.
-fn write(rt: &impl Print, out: &[u8], n: usize) -> bool
+// Writes the first bytes of a buffer.
+fn write(rt: &impl Print, out: &[u8], n: usize) -> Result<(), Told>
     requires { n ≤ length out.now }
 {
     command::write_all(rt, &out[..n])
 }
 
 // Writes the line of a refusal.
-fn refuse(rt: &impl Print, out: &mut [u8], status: u8) -> u8
+fn refuse(rt: &impl Print, out: &mut [u8], status: u8) -> Result<Ending, Told>
     requires { room ≤ length out.old }
-    ensures { (result ≡ 2 → ⊥) → result ≡ 1 }
+    ensures { IfOk result (λ ending. number_of ending ≡ 1) }
 {
     let n = refusal_line::put_refusal(out, status);
-    if !write(rt, out, n) {
-        return command::FAILED;
-    }
-    command::REFUSED
+    write(rt, out, n)?;
+    Ok(Ending::Refused)
 }
 
 // Writes the sums of each of so many threads.
-fn write_sums(rt: &impl Print, out: &mut [u8], threads: usize, sums: &[u64; NUMBERS]) -> u8
+fn write_sums(
+    rt: &impl Print,
+    out: &mut [u8],
+    threads: usize,
+    sums: &[u64; NUMBERS],
+) -> Result<Ending, Told>
     requires { (threads ≤ most_threads) × (room ≤ length out.old) }
-    ensures { (result ≡ 2 → ⊥) → result ≡ 0 }
+    ensures { IfOk result (λ ending. number_of ending ≡ 0) }
 {
     let n = counts_text::put_sums(out, threads, sums);
-    if !write(rt, out, n) {
-        return command::FAILED;
-    }
-    command::DONE
+    write(rt, out, n)?;
+    Ok(Ending::Done)
 }
 
-// Whether the lines of the events were written, and the state that the last event left, without its slots.
-#[derive(Clone, Copy)]
-struct Ended {
-    written: bool,
-    core: Core,
-}
-
-// Writes the lines of each event from an offset on, and adds up what they tell.
+// Writes the lines of each event from an offset on, and adds up what they tell; the answer is the state that the last event left, without
+// its slots.
 fn write_events(
     rt: &impl Print,
     file: &[u8],
@@ -65,81 +62,54 @@ fn write_events(
     sums: &mut [u64; NUMBERS],
     first: usize,
     out: &mut [u8],
-) -> Ended
+) -> Result<Core, Told>
     requires { (sound_state (whole opened dues.old amounts.old) ≡ true) × (room ≤ length out.old) }
-    ensures amounts_after { sound_state (whole result.core dues.new amounts.new) ≡ true }
-    ensures sums_after { result.written ≡ true → (sums.new ≡ sums_from (whole opened dues.old amounts.old) file.now first most_events)
-        × (whole result.core dues.new amounts.new ≡ end_from (whole opened dues.old amounts.old) file.now first most_events) }
+    ensures { IfOk result (λ core. (sound_state (whole core dues.new amounts.new) ≡ true)
+        × (sums.new ≡ sums_from (whole opened dues.old amounts.old) file.now first most_events)
+        × (whole core dues.new amounts.new ≡ end_from (whole opened dues.old amounts.old) file.now first most_events)) }
 {
     *sums = [0u64; NUMBERS];
     let mut s = opened;
     let mut offset = first;
-    let mut i = 0;
-    while i < EVENTS {
+    for i in 0..EVENTS {
         let step = counts_steps::count_at(s, dues, amounts, sums, file, offset, i, out);
-        let core = step.core;
+        s = step.core;
         if !step.more {
-            return Ended {
-                written: true,
-                core,
-            };
+            return Ok(s);
         }
-        if !write(rt, out, step.length) {
-            return Ended {
-                written: false,
-                core,
-            };
-        }
-        s = core;
+        write(rt, out, step.length)?;
         offset = step.offset;
-        i += 1;
     }
-    Ended {
-        written: true,
-        core: s,
-    }
+    Ok(s)
 }
 
 // Writes what happened at the events of a file, or the line of its refusal.
-fn count(rt: &impl Print, file: &[u8]) -> u8
-    ensures { (result ≡ 2 → ⊥) → result ≡ cond (eqb (begun_of file.now).status 0) 0 1 }
+fn count(rt: &impl Print, file: &[u8]) -> Result<Ending, Told>
+    ensures { IfOk result (λ ending. number_of ending ≡ cond (eqb (begun_of file.now).status 0) 0 1) }
 {
     let mut out = [0u8; ROOM];
     let mut dues = [0u64; SLOTS];
     let mut amounts = [0u64; SLOTS];
     let begun = replay_begin::begin(file, &mut dues, &mut amounts);
-    let status = begun.status;
-    if status != 0 {
-        return refuse(rt, &mut out, status);
+    if begun.status != 0 {
+        return refuse(rt, &mut out, begun.status);
     }
-    let a = begun.answer;
-    let opened = a.core;
     let mut sums = [0u64; NUMBERS];
-    let ended = write_events(
+    let last = write_events(
         rt,
         file,
-        opened,
+        begun.answer.core,
         &mut dues,
         &mut amounts,
         &mut sums,
         begun.offset,
         &mut out,
-    );
-    if !ended.written {
-        return command::FAILED;
-    }
-    let last = ended.core;
+    )?;
     write_sums(rt, &mut out, last.header.n as usize, &sums)
 }
 
 // A trace has at most 60,800 bytes: of a longer file the first 65,536 are refused as the whole of it is.
 fn main(rt: HostRuntime) {
     let mut file = io::large_buffer();
-    let input = command::read_input(&rt, 1, &mut file);
-    if !input.whole {
-        command::end(command::FAILED);
-        return;
-    }
-    let length = input.length;
-    command::end(count(&rt, &file[..length]));
+    command::run_on_input(&rt, &mut file, |rt, file| count(rt, file));
 }

@@ -11,10 +11,8 @@ pub fn add(sums: &mut [u64; NUMBERS], told: &[u64; NUMBERS])
     requires { Addable sums.old told.now }
     ensures { sums.new ≡ added sums.old told.now }
 {
-    let mut k = 0;
-    while k < NUMBERS {
-        let x = sums[k];
-        sums[k] = x + told[k];
-        k += 1;
+    // by place: what is written through `iter_mut` is not known afterwards
+    for k in 0..NUMBERS {
+        sums[k] += told[k];
     }
 }

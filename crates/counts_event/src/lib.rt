@@ -21,7 +21,7 @@ fn put_event_line(out: &mut [u8], i: u64, status: u8) -> usize
 {
     let here = put_word(out, 0, b"event ");
     let there = put_field(out, here, i, b' ');
-    put_field(out, there, status as u64, b'\n')
+    put_field(out, there, u64::from(status), b'\n')
 }
 
 // Whether nothing happened to thread i.
@@ -30,19 +30,7 @@ fn is_quiet(i: usize, xs: &[u64; NUMBERS]) -> bool
     ensures { result ≡ quiet xs.now i }
 {
     let k = i * PER_THREAD;
-    if xs[k] != 0 {
-        return false;
-    }
-    if xs[k + 1] != 0 {
-        return false;
-    }
-    if xs[k + 2] != 0 {
-        return false;
-    }
-    if xs[k + 3] != 0 {
-        return false;
-    }
-    true
+    (xs[k] | xs[k + 1] | xs[k + 2] | xs[k + 3]) == 0
 }
 
 // The line of thread i, if something happened to it.
@@ -64,10 +52,8 @@ pub fn put_event(out: &mut [u8], i: u64, status: u8, n: usize, told: &[u64; NUMB
     ensures upper_bound { result ≤ room }
 {
     let mut here = put_event_line(out, i, status);
-    let mut t = 0;
-    while t < n {
+    for t in 0..n {
         here = put_count(out, here, t, told);
-        t += 1;
     }
     here
 }

@@ -19,8 +19,7 @@ use Rattle.moments.specs.Reports.{tallies}
 use Rattle.events.specs.Answers.{executive}
 use Rattle.events.specs.Reports.{own_tallies, event_numbers, event_tallies, most_told}
 use Rattle.events.proofs.ReportLaws.{numbers_fit}
-use Rattle.trace_reader.specs.declared.Next.{Next}
-use Rattle.trace_reader.specs.declared.Next.TheVariants as next
+use Rattle.std.specs.Prelude.{Option, Some, None}
 use Rattle.trace_reader.specs.Reader.{next_at, events_from}
 use Rattle.trace_contents.proofs.ReadLaws.{accepted}
 use Rattle.trace_reader.proofs.ReaderLaws.{from-event, from-none, from_end, all-accepted}
@@ -47,9 +46,9 @@ told-most : (s : State) (file : List ℕ) (offset k : ℕ) → get_or (told_at s
 unfolding told_at
 told-most s file offset k = go (next_at file offset)
   where
-    go : (x : Next) → get_or (told_of s x) k 0 ≤ most_told
-    go (next.Event e after) = numbers_fit.1 s e k
-    go next.End = omega (arith, zeros-most 128 k)
+    go : (x : Option (Event × ℕ)) → get_or (told_of s x) k 0 ≤ most_told
+    go (Some (e, after)) = numbers_fit.1 s e k
+    go None = omega (arith, zeros-most 128 k)
 
 pub no-sums : SumsOf 0 (replicate 128 0)
 no-sums = record { all = refl; most = zeros-most 128 }
@@ -119,7 +118,7 @@ unfolding sums_over
 sums-one s e es =
     sym (numbers-added (event_tallies s e) (total tallies (reports executive tallies own_tallies (answer executive s e).state es)))
 
-leads : (i : ℕ) (s : State) (file : List ℕ) (offset k : ℕ) (e : Event) (after : ℕ) → next_at file offset ≡ next.Event e after
+leads : (i : ℕ) (s : State) (file : List ℕ) (offset k : ℕ) (e : Event) (after : ℕ) → next_at file offset ≡ Some (e, after)
     → Leads i s file offset k (counted_at i s file offset)
 unfolding text_from sums_from event_texts counted_at stepped_of
 leads i s file offset k e after z =
@@ -142,28 +141,28 @@ leads i s file offset k e after z =
       state = (goes_on s file offset k (stepped_of s file offset) refl (ap (λ (x : FileStep). x.more) st)).state;
     }
 
-ends : (i : ℕ) (s : State) (file : List ℕ) (offset k : ℕ) → next_at file offset ≡ next.End → Ends i s file offset k (counted_at i s file offset)
+ends : (i : ℕ) (s : State) (file : List ℕ) (offset k : ℕ) → next_at file offset ≡ None → Ends i s file offset k (counted_at i s file offset)
 unfolding text_from sums_from event_texts counted_at stepped_of
 ends i s file offset k z =
     let f = from_end file offset k z in
-    let m : (stepped_of s file offset).more ≡ false = ap (λ (x : Next). (step_of s offset x).more) z in
+    let m : (stepped_of s file offset).more ≡ false = ap (λ (x : Option (Event × ℕ)). (step_of s offset x).more) z in
     record {
       text = ap (event_texts i s) f;
       sums = ap (sums_over s) f ∙ sums_none s;
       state = (stops-here s file offset k (stepped_of s file offset) refl m).state;
       told = told-end s file offset z;
-      stays = ap (λ (x : Next). (step_of s offset x).answer.state) z;
+      stays = ap (λ (x : Option (Event × ℕ)). (step_of s offset x).answer.state) z;
     }
 
 pub steps-count : StepsCount
 unfolding counted_at stepped_of
 steps-count i s file offset k = go (next_at file offset) refl
   where
-    go : (x : Next) → next_at file offset ≡ x
+    go : (x : Option (Event × ℕ)) → next_at file offset ≡ x
         → ((step_of s offset (next_at file offset)).more ≡ true → Leads i s file offset k (counted_at i s file offset))
         × ((step_of s offset (next_at file offset)).more ≡ false → Ends i s file offset k (counted_at i s file offset))
-    go (next.Event e after) z = (λ m. leads i s file offset k e after z, λ m. false-true (sym m ∙ ap (λ (x : Next). (step_of s offset x).more) z))
-    go next.End z = (λ m. false-true (sym (ap (λ (x : Next). (step_of s offset x).more) z) ∙ m), λ m. ends i s file offset k z)
+    go (Some (e, after)) z = (λ m. leads i s file offset k e after z, λ m. false-true (sym m ∙ ap (λ (x : Option (Event × ℕ)). (step_of s offset x).more) z))
+    go None z = (λ m. false-true (sym (ap (λ (x : Option (Event × ℕ)). (step_of s offset x).more) z) ∙ m), λ m. ends i s file offset k z)
 
 -- the same of what a step answered
 module _ (i : ℕ) (s : State) (file : List ℕ) (offset k : ℕ) (x : CountStep) (e : x ≡ counted_at i s file offset) where
@@ -192,9 +191,9 @@ told-length : (s : State) (file : List ℕ) (offset : ℕ) → length (told_at s
 unfolding told_at
 told-length s file offset = go (next_at file offset)
   where
-    go : (x : Next) → length (told_of s x) ≡ 128
-    go (next.Event e after) = numbers-length 32 (event_tallies s e)
-    go next.End = refl
+    go : (x : Option (Event × ℕ)) → length (told_of s x) ≡ 128
+    go (Some (e, after)) = numbers-length 32 (event_tallies s e)
+    go None = refl
 
 -- before the first event
 pub sums-start : (s : State) (file : List ℕ) (offset k : ℕ) → added (replicate 128 0) (sums_from s file offset k) ≡ sums_from s file offset k

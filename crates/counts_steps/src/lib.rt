@@ -17,6 +17,7 @@ use state::Core;
 
 // What a step answers: whether there was an event, the offset after it, how many bytes its lines have, and the state that it left, without
 // its slots. At the end the offset and the state are as given.
+// A flag and no Option: `counted_at` says the offset and the state at the end too.
 #[derive(Clone, Copy)]
 pub struct Counted {
     pub more: bool,

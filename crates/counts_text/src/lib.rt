@@ -4,7 +4,7 @@
 ghost use Rattle.std.specs.Prelude.{◌+◌, ◌<◌, ◌≤◌, length};
 ghost use Rattle.records.specs.Ranges.{most_threads};
 ghost use Rattle.text.specs.Placed.{Put};
-ghost use Rattle.counts_text.specs.Lines.{count_word, four_line, thread_line, sums_text};
+ghost use Rattle.counts_text.specs.Lines.{count_word, thread_line, sums_text};
 ghost use Rattle.counts_text.specs.Room.{thread_line_most, room};
 
 use records::THREADS;
@@ -15,43 +15,16 @@ use text_fields::{put_field, put_row};
 // A buffer of so many bytes is long enough for the lines of an event, and for the sums.
 pub const ROOM: usize = 15 + 93 * THREADS;
 
-// A word, the number of a thread and its four numbers.
-fn put_four(
-    out: &mut [u8],
-    at: usize,
-    word: &[u8],
-    i: u64,
-    limits: u64,
-    quanta: u64,
-    replenishments: u64,
-    amounts: u64,
-) -> usize
-    requires { (i < most_threads) × (length word.now ≤ length count_word) × (at + thread_line_most ≤ length out.old) }
-    ensures put { Put out.old at (four_line word.now i limits quanta replenishments amounts) out.new result }
-    ensures upper_bound { result ≤ at + thread_line_most }
-{
-    let here = put_word(out, at, word);
-    let there = put_field(out, here, i, b' ');
-    put_row(out, there, limits, quanta, replenishments, amounts)
-}
-
-// The line of thread i.
+// The line of thread i: a word, its number and its four numbers.
 pub fn put_thread(out: &mut [u8], at: usize, word: &[u8], i: usize, xs: &[u64; NUMBERS]) -> usize
     requires { (i < most_threads) × (length word.now ≤ length count_word) × (at + thread_line_most ≤ length out.old) }
     ensures put { Put out.old at (thread_line word.now xs.now i) out.new result }
     ensures upper_bound { result ≤ at + thread_line_most }
 {
     let k = i * PER_THREAD;
-    put_four(
-        out,
-        at,
-        word,
-        i as u64,
-        xs[k],
-        xs[k + 1],
-        xs[k + 2],
-        xs[k + 3],
-    )
+    let here = put_word(out, at, word);
+    let there = put_field(out, here, i as u64, b' ');
+    put_row(out, there, xs[k], xs[k + 1], xs[k + 2], xs[k + 3])
 }
 
 // The sums of each of n threads from the buffer's start on.
@@ -61,10 +34,8 @@ pub fn put_sums(out: &mut [u8], n: usize, sums: &[u64; NUMBERS]) -> usize
     ensures upper_bound { result ≤ room }
 {
     let mut here = 0;
-    let mut t = 0;
-    while t < n {
+    for t in 0..n {
         here = put_thread(out, here, b"sum ", t, sums);
-        t += 1;
     }
     here
 }

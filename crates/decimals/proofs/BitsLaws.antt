@@ -9,11 +9,10 @@ use lib.Dec.{T, leb, ltb, eqb, nleb→lt}
 use lib.Ieee.{Float, nan, inf, fin, binary64, prec, low, hid, top, ones, odd, of_fields, of_bits, to_bits, fits, is_nan}
 use lib.Ieee.Bits.{of_bits-to_bits}
 use lib.Ieee.Exact.{HasValue, odd_sign}
-use lib.Ieee.Positive.{num, den, positive, den_pos, own_value, value→cross}
+use lib.Ieee.Positive.{num, den, positive, den_pos, value→cross}
 use borrow.Author.Tests.{ltb-true, ltb-false}
 use Rattle.decimals.specs.Decimals.{InUnit}
 use Rattle.decimals.specs.Private.{limb, unit, Split}
-use Rattle.decimals.specs.declared.Limbs.{Limbs}
 
 -- a float above 0 is no NaN
 pub number : (x : Float) → T (positive x) → T (not (is_nan x))

@@ -1,14 +1,13 @@
 -- The nearest whole number, by how twice the rest compares with the unit; and decimals of equal fractions.
-use Prim.Native.Nat.{ℕ, zero, suc, ◌+◌, ◌*◌, ◌/◌, ◌%◌, ◌^◌, ◌≤◌, ◌<◌, compare, Ordering}
+use Prim.Native.Nat.{ℕ, zero, suc, ◌+◌, ◌*◌, ◌%◌, ◌^◌, ◌≤◌, ◌<◌, compare, Ordering}
 use mathlib.Core.Bool.{Bool, true, false, cond}
 use mathlib.Core.Path.{◌≡◌, refl, sym, ap, ◌∙◌, subst}
 use native.Mathlib.Numerals.{add-one}
 use native.Mathlib.Omega.{arith}
-use native.Mathlib.Nat.{le_trans, le_of_eq, mul_assoc, mul_right_comm, mul-le-mul_right, le_of_mul-le-mul_right}
+use native.Mathlib.Nat.{le_trans, le_of_eq, mul_right_comm, mul-le-mul_right, le_of_mul-le-mul_right}
 use lib.Dec.{T, leb, is_le, compare_is_eq, leb→le, le→leb, eqb, eqb→eq, eqb_refl}
 use lib.Ieee.{nearest}
 use lib.Ieee.Nearest.{closest, closest_same}
-use Rattle.decimals.specs.declared.Decimals.{Decimals}
 use Rattle.decimals.specs.Private.{limb, unit}
 use Rattle.decimals.specs.Decimals.{enough, most_places, places_of, decimals_at, decimals_of}
 

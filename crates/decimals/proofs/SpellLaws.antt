@@ -6,7 +6,7 @@ use native.Mathlib.Numerals.{add-one}
 use native.Mathlib.Omega.{arith}
 use native.Mathlib.Nat.{le_trans, le_of_eq, lt_of_lt_of_le, le-add_right, mul_assoc, mul-one, mul-le-mul_right, pow-suc, zero-add}
 use lib.Arith.{digits_lt, digits_div, digits_mod}
-use lib.Dec.{leb, ltb}
+use lib.Dec.{ltb}
 use lib.Ieee.{nearest}
 use lib.Ieee.Fits.{nearest-le}
 use borrow.Author.Tests.{ltb-true, ltb-false, le-leb, lt-leb}

@@ -58,10 +58,7 @@ fn split(x: f64) -> Limbs
 fn goes_on(digits: u64, places: u64) -> bool
     ensures { result ≡ goes_on digits places }
 {
-    if digits < ENOUGH {
-        return places < MOST_PLACES;
-    }
-    false
+    digits < ENOUGH && places < MOST_PLACES
 }
 
 // The nearest whole number of digits, by the fraction that is left; at a tie the even one.
@@ -97,7 +94,7 @@ fn spelt(l: Limbs) -> Decimals
         digits = digits * 10 + up / LIMB;
         high = up % LIMB;
         low = down % LIMB;
-        places = places + 1;
+        places += 1;
     }
     Decimals {
         digits: rounded(digits, high, low),
@@ -111,8 +108,7 @@ fn decimals_of(x: f64) -> Decimals
     ensures value { result ≡ decimals_of (num x) (den x) }
     ensures within { Within result }
 {
-    let l = split(x);
-    spelt(l)
+    spelt(split(x))
 }
 
 // Digits in decimal, the last so many of them after a point.

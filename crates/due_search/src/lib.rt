@@ -19,6 +19,7 @@ use rows::SLOTS;
 const FIRST: usize = 0;
 
 // The first of the dues, and the lowest thread that has it; thread THREADS for none.
+// A number and no Option: C is handed thread 32, and `next_due`, `NextInWord` and `NextAfter` say so.
 #[derive(Clone, Copy)]
 pub struct Due {
     pub due: u64,
@@ -34,14 +35,11 @@ pub fn each_thread<'a>(counts: &'a [u8; THREADS], dues: &'a [u64; SLOTS], n: usi
         due: 0,
         thread: THREADS,
     };
-    let mut i: usize = 0;
-    while i < n {
-        let k = i;
-        i = i + 1;
-        if counts[k] == 0 {
+    for i in 0..n {
+        if counts[i] == 0 {
             continue;
         }
-        best = sooner_of(best, k, first_due(dues, k));
+        best = sooner_of(best, i, first_due(dues, i));
     }
     best
 }

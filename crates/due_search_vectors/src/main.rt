@@ -1,27 +1,17 @@
 // Runs stored cases of the search for the next due, over counts and entries that no sound state has too, and prints N, the thread and
 // the due that is found. The expected output is the file stdout, written from 02 E2 alone.
+// A case is a function of its own: its title and its numbers.
 #![tactic(auto)]
 
 use account::ENTRIES;
 use records::THREADS;
 use rows::SLOTS;
-
-const STDOUT_FILENO: i32 = 1;
+use vector_lines::{last_number, number, title};
 
 #[derive(Clone, Copy)]
 struct Case {
     counts: [u8; THREADS],
     dues: [u64; SLOTS],
-}
-
-fn title(text: &[u8]) {
-    io::write_all(STDOUT_FILENO, text);
-    io::write_all(STDOUT_FILENO, b"\n");
-}
-
-fn number(n: u64) {
-    io::print_decimal(STDOUT_FILENO, n);
-    io::write_all(STDOUT_FILENO, b" ");
 }
 
 fn nothing() -> Case {
@@ -36,15 +26,11 @@ fn given(c: Case, i: usize, count: u8, first: u64, second: u64) -> Case {
     if THREADS <= i {
         return c;
     }
-    let mut counts = c.counts;
-    let mut dues = c.dues;
-    counts[i] = count;
-    dues[i * ENTRIES] = first;
-    dues[i * ENTRIES + 1] = second;
-    Case {
-        counts: counts,
-        dues: dues,
-    }
+    let mut d = c;
+    d.counts[i] = count;
+    d.dues[i * ENTRIES] = first;
+    d.dues[i * ENTRIES + 1] = second;
+    d
 }
 
 // What is found among the first n threads.
@@ -52,13 +38,10 @@ fn show(c: Case, n: usize) {
     if THREADS < n {
         return;
     }
-    let counts = c.counts;
-    let dues = c.dues;
-    let x = next_due::next_due(&counts, &dues, n);
+    let x = next_due::next_due(&c.counts, &c.dues, n);
     number(n as u64);
     number(x.thread as u64);
-    io::print_decimal(STDOUT_FILENO, x.due);
-    title(b"");
+    last_number(x.due);
 }
 
 fn none() {
@@ -127,15 +110,9 @@ fn unsorted() {
 // Every thread has one entry: thread i's is due at 100 + i, or at 100 - i.
 fn all(falling: bool) -> Case {
     let mut c = nothing();
-    let mut i: usize = 0;
-    while i < THREADS {
-        let k = i;
-        i = i + 1;
-        if falling {
-            c = given(c, k, 1, (100 - k) as u64, 0);
-            continue;
-        }
-        c = given(c, k, 1, (100 + k) as u64, 0);
+    for i in 0..THREADS {
+        let due = if falling { 100 - i } else { 100 + i };
+        c = given(c, i, 1, due as u64, 0);
     }
     c
 }

@@ -1,13 +1,11 @@
 // What each rule of a sporadic server does, as an Effect: the limit, a block, and what comes back. No entries, no thread, no list.
 #![tactic(auto)]
 
-ghost use Rattle.std.specs.Prelude.{◌≡◌, not, ◌&&◌, ◌+◌, ◌<◌, ◌^◌, min, leb};
+ghost use Rattle.std.specs.Prelude.{◌≡◌, ◌+◌, ◌<◌, ◌^◌, leb};
 ghost use Rattle.sporadic.specs.Rules.{
   replenished,
   due_of,
-  unchanged,
   scheduled,
-  sent,
   raised,
   limit_effect,
   block_effect,
@@ -17,41 +15,13 @@ ghost use Rattle.sporadic.specs.Rules.{
 use records::Parameters;
 use sporadic::{Effect, Place, Server};
 
-// capacity + amount, at most the budget, with no sum that could wrap.
-fn up_to(budget: u64, capacity: u64, amount: u64) -> u64
-    ensures { result ≡ min (capacity + amount) budget }
-{
-    if budget <= capacity {
-        return budget;
-    }
-    if budget - capacity <= amount {
-        return budget;
-    }
-    capacity + amount
-}
-
-// An amount comes back.
+// An amount comes back, up to the budget.
 fn replenish(p: Parameters, s: Server, amount: u64) -> Server
     ensures { result ≡ replenished amount p s }
 {
     Server {
-        capacity: up_to(p.budget, s.capacity, amount),
-        used: s.used,
-        activation: s.activation,
-    }
-}
-
-// Nothing happens.
-fn nothing(s: Server) -> Effect
-    ensures { result ≡ unchanged s }
-{
-    Effect {
-        server: s,
-        place: Place::Stays,
-        due: 0,
-        amount: 0,
-        back: 0,
-        first: false,
+        capacity: s.capacity.saturating_add(amount).min(p.budget),
+        ..s
     }
 }
 
@@ -59,56 +29,29 @@ fn nothing(s: Server) -> Effect
 fn due_by(p: Parameters, s: Server, now: u64) -> bool
     ensures { result ≡ leb (due_of p s) now }
 {
-    if now < s.activation {
-        return false;
-    }
-    p.period <= now - s.activation
+    s.activation <= now && p.period <= now - s.activation
 }
 
 // U is scheduled: nothing where it is 0, back at once where it is due by now, else one entry more.
+#[tactic(auto, unfolding(sporadic::specs::Rules::scheduled))]
 fn schedule(p: Parameters, s: Server, now: u64) -> Effect
     requires { due_of p s < 2 ^ 64 }
     ensures { result ≡ scheduled now p s }
 {
     if s.used == 0 {
-        return nothing(s);
+        return sporadic::unchanged(s);
     }
-    let cleared = Server {
-        capacity: s.capacity,
-        used: 0,
-        activation: s.activation,
-    };
+    let cleared = Server { used: 0, ..s };
     if due_by(p, s, now) {
         return Effect {
-            server: replenish(p, cleared, s.used),
-            place: Place::Stays,
-            due: 0,
-            amount: 0,
             back: s.used,
-            first: false,
+            ..sporadic::unchanged(replenish(p, cleared, s.used))
         };
     }
     Effect {
-        server: cleared,
-        place: Place::Stays,
         due: s.activation + p.period,
         amount: s.used,
-        back: 0,
-        first: false,
-    }
-}
-
-// With another server, the thread goes to x.
-fn send(e: Effect, x: Place, s: Server) -> Effect
-    ensures { result ≡ sent x s e }
-{
-    Effect {
-        server: s,
-        place: x,
-        due: e.due,
-        amount: e.amount,
-        back: e.back,
-        first: e.first,
+        ..sporadic::unchanged(cleared)
     }
 }
 
@@ -117,32 +60,34 @@ fn raise(e: Effect, low: bool, x: Place, now: u64) -> Effect
     ensures { result ≡ raised now low x e }
 {
     if low {
-        let s = e.server;
-        let active = Server {
-            capacity: s.capacity,
-            used: s.used,
-            activation: now,
+        return Effect {
+            server: Server {
+                activation: now,
+                ..e.server
+            },
+            place: x,
+            ..e
         };
-        return send(e, x, active);
     }
     e
 }
 
 // The limit is reached: to low, and on to upper where U came back at once. Nothing where the thread is blocked or has
 // capacity left.
+#[tactic(auto, unfolding(sporadic::specs::Rules::limit_effect))]
 pub fn limit_effect(p: Parameters, s: Server, blocked: bool, now: u64) -> Effect
     requires { due_of p s < 2 ^ 64 }
     ensures { result ≡ limit_effect now blocked p s }
 {
-    if blocked {
-        return nothing(s);
-    }
-    if 0 < s.capacity {
-        return nothing(s);
+    if blocked || 0 < s.capacity {
+        return sporadic::unchanged(s);
     }
     let e = schedule(p, s, now);
-    let v = e.server;
-    raise(send(e, Place::Low, v), 0 < e.back, Place::LowThenUpper, now)
+    let at_low = Effect {
+        place: Place::Low,
+        ..e
+    };
+    raise(at_low, 0 < e.back, Place::LowThenUpper, now)
 }
 
 // The running thread blocks: U is scheduled. Nothing where it is blocked already.
@@ -151,22 +96,13 @@ pub fn block_effect(p: Parameters, s: Server, blocked: bool, now: u64) -> Effect
     ensures { result ≡ block_effect now blocked p s }
 {
     if blocked {
-        return nothing(s);
+        return sporadic::unchanged(s);
     }
     schedule(p, s, now)
 }
 
-// Whether a thread is runnable and at its low priority.
-fn runs_low(blocked: bool, upper: bool) -> bool
-    ensures { result ≡ (not blocked && not upper) }
-{
-    if blocked {
-        return false;
-    }
-    !upper
-}
-
 // The first of `count` entries, of this amount, comes back; nothing where there is none.
+#[tactic(auto, unfolding(sporadic::specs::Rules::return_effect))]
 pub fn return_effect(
     p: Parameters,
     s: Server,
@@ -178,20 +114,13 @@ pub fn return_effect(
     ensures { result ≡ return_effect now blocked p count amount s }
 {
     if count == 0 {
-        return nothing(s);
+        return sporadic::unchanged(s);
     }
     let e = Effect {
-        server: replenish(p, s, amount),
-        place: Place::Stays,
-        due: 0,
-        amount: 0,
         back: amount,
         first: true,
+        ..sporadic::unchanged(replenish(p, s, amount))
     };
-    raise(
-        e,
-        runs_low(blocked, sporadic::at_upper(p, s.capacity, count)),
-        Place::Upper,
-        now,
-    )
+    let low = !blocked && !sporadic::at_upper(p, s.capacity, count);
+    raise(e, low, Place::Upper, now)
 }

@@ -1,3 +1,2 @@
 -- Laws of the entries.
-pub mod SlotLaws
 pub mod InsertLaws

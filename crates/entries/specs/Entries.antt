@@ -1,5 +1,5 @@
 -- The slots of an account's pending entries: an entry comes in due order, and the first one goes.
-use Rattle.std.specs.Prelude.{ℕ, zero, suc, ◌+◌, ◌-◌, ◌≤◌, ◌<◌}
+use Rattle.std.specs.Prelude.{ℕ, zero, suc, ◌+◌, ◌-◌, ◌<◌}
 use mathlib.Core.{Bool.Bool, Bool.true, Bool.false, Bool.cond, Path.◌≡◌, List.List, List.[], List.◌∷◌, List.◌++◌}
 use lib.{ListN.take, ListN.drop, ListN.get_or, Dec.leb, Dec.eqb}
 use Rattle.records.specs.Ranges.{most_replenishments}

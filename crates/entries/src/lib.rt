@@ -26,11 +26,7 @@ pub fn without_first(xs: [u64; ENTRIES]) -> [u64; ENTRIES]
     ensures { result ≡ without_first xs }
 {
     let mut r = xs;
-    let mut i: usize = 0;
-    while i + 1 < ENTRIES {
-        r[i] = xs[i + 1];
-        i = i + 1;
-    }
-    r[i] = 0;
+    r.copy_within(1.., 0);
+    r[ENTRIES - 1] = 0;
     r
 }

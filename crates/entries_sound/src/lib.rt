@@ -28,26 +28,22 @@ pub fn entries_hold<'a>(
     }
     let mut left = budget - capacity - used;
     let mut last = after;
-    let mut i: usize = 0;
-    while i < dues.len() {
-        let x = amounts[i];
-        let d = dues[i];
-        i = i + 1;
-        if x < 1 {
+    for (amount, due) in amounts.iter().zip(dues) {
+        if *amount < 1 {
             return false;
         }
-        if left < x {
+        if left < *amount {
             return false;
         }
-        if d <= last {
+        if *due <= last {
             return false;
         }
-        if MOST_TICKS < d - after {
+        if MOST_TICKS < due - after {
             return false;
         }
-        left = left - x;
-        // the next one may be due at d too
-        last = d - 1;
+        left -= amount;
+        // the next one may be due at the same time
+        last = due - 1;
     }
     left == 0
 }

@@ -4,3 +4,4 @@ pub mod EventLaws
 pub mod OpeningLaws
 pub mod DemandLaws
 pub mod ReportLaws
+pub mod RefusedLaws

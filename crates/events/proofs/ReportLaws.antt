@@ -1,5 +1,5 @@
 -- What events tell adds up over whole sequences, and no number of it is large.
-use Prim.Native.Nat.{ℕ, zero, suc, ◌≤◌, ◌<◌}
+use Prim.Native.Nat.{ℕ, zero, suc, ◌≤◌}
 use mathlib.Core.Bool.{Bool, true, false, cond}
 use mathlib.Core.Path.{◌≡◌, refl, sym, ap, ◌∙◌, subst⁻¹}
 use mathlib.Core.List.{[], ◌∷◌}
@@ -38,7 +38,7 @@ use Rattle.moments.proofs.ReportLaws.{tally-laws}
 use Rattle.moments.proofs.ReportBounds.{returned-most, one_told, reported-most}
 use Rattle.events.specs.Events.{concerned}
 use Rattle.events.specs.Answers.{executive}
-use Rattle.events.specs.Reports.{own_log_of, own_back, OnlyBlocksTell, own_tallies, event_tallies, TalliesAddUp, RefusedTellsZeros, NumbersFit, event_numbers}
+use Rattle.events.specs.Reports.{own_log_of, OnlyBlocksTell, own_tallies, event_tallies, TalliesAddUp, RefusedTellsZeros, NumbersFit, event_numbers}
 use Rattle.events.proofs.DemandLaws.{lawful}
 
 -- 02 E3 4

@@ -1,13 +1,12 @@
 -- A turn of an event's loop as it is read; and a set that carries an account over: its status by cases, and where no moment falls up to
 -- the event.
 use Prim.Native.Nat.{ℕ, ◌-◌, ◌≤◌, ◌<◌}
-use mathlib.Core.Bool.{Bool, false, cond, ◌&&◌}
+use mathlib.Core.Bool.{false, cond}
 use mathlib.Core.Path.{◌≡◌, refl, sym, ap, ap₂, ◌∙◌}
 use mathlib.Core.List.{List}
 use lib.ListN.{length, get_or, set}
 use lib.Seq.{get_or-set_same, get_or-set_other}
 use lib.Dec.{eqb}
-use native.Mathlib.Omega.{arith}
 use native.Mathlib.Decide.{ℕ_discrete}
 use borrow.Author.Tests.{eq-eqb, ne_eqb}
 use Rattle.base.proofs.TestLaws.{cond-true, cond-false}
@@ -44,17 +43,6 @@ turn_of s a t top by p h i m ep eh ei em =
       seen = record { first = refl; list = ep; top = eh; at = ei; limit = refl; moment = em };
     }
 
-pub status-by : (a b x y : Bool) → a ≡ x → b ≡ y → cond {A = ℕ} (x && y) 15 0 ≡ cond (a && b) 15 0
-status-by a b x y e f = ap₂ (λ (v w : Bool). cond {A = ℕ} (v && w) 15 0) (sym e) (sym f)
-
--- a thread after k ticks: the head has run in list p, and any other stays as it is
-module _ (k p h n : ℕ) (t : Thread) where
-  pub ran-head : h ≡ n → (u : Thread) → u ≡ cond (eqb p 0) t (ran p k t) → u ≡ ran_up_to k p h n t
-  ran-head e u f = f ∙ sym (cond-true (eqb h n) _ t (eq-eqb h n e))
-
-  pub ran-other : (h ≡ n → ⊥) → t ≡ ran_up_to k p h n t
-  ran-other d = sym (cond-false (eqb h n) _ t (ne_eqb h n d))
-
 -- the same where all stand in their places
 ran-at : (k p i : ℕ) (ts : List Thread) → i < length ts → (j : ℕ)
     → ran_up_to k p i j (get_or ts j no_thread) ≡ get_or (set ts i (cond (eqb p 0) (get_or ts i no_thread) (ran p k (get_or ts i no_thread)))) j no_thread
@@ -79,8 +67,3 @@ now-status r b l e n h f g =
     ap₂ (λ (x y : ℕ). carry_status e (ran_up_to k r.list x e.thread (thread_at r.state y)) (get_or r.state.counts y 0)) (sym g) f
     ∙ ap (λ (t : Thread). carry_status e t (get_or r.state.counts e.thread 0)) (ran-at k r.list r.at r.state.threads l e.thread)
     ∙ ap (λ (x : State). carry_status_at x e) (last r b _ _ refl refl)
-
--- a moment is due: the same on a copy u that was brought to that time
-pub then-status : (s u : State) (e : Event) → u ≡ passed s e.time → (n : ℕ) → n ≡ e.thread
-    → carry_status e (thread_at u n) (get_or u.counts n 0) ≡ carry_status_at (passed s e.time) e
-then-status s u e p n f = ap (λ (j : ℕ). carry_status e (thread_at u j) (get_or u.counts j 0)) f ∙ ap (λ (x : State). carry_status_at x e) p

@@ -16,7 +16,6 @@ use Rattle.ready.specs.Lists.{head_of}
 use Rattle.ready.specs.Word.{occupancy}
 use Rattle.ready.specs.Rules.{Leavable, Joinable, Movable}
 use Rattle.ready.proofs.SoundLaws.{leavable, joinable, movable}
-use Rattle.thread.specs.declared.Thread.{Thread}
 use Rattle.state.specs.declared.State.{State}
 use Rattle.state.specs.State.{thread_at, pending_at, account_at, place}
 use Rattle.state.specs.Sound.{sound_state}

@@ -1,6 +1,6 @@
 -- An event and those of a file after it: how each stands between the turns of the loop, and which is the last.
 use Prim.Native.Nat.{ℕ, zero, suc, ◌+◌, ◌*◌, ◌-◌, ◌≤◌, ◌<◌}
-use mathlib.Core.Bool.{Bool, true, false, cond, not}
+use mathlib.Core.Bool.{Bool, true, false, cond}
 use mathlib.Core.List.{List, [], ◌∷◌}
 use mathlib.Core.Path.{◌≡◌, refl, sym, ap, ◌∙◌, subst, subst⁻¹}
 use native.Mathlib.Omega.{arith}
@@ -8,10 +8,10 @@ use mir.Syntax.{w64}
 use mir.Val.{Fits}
 use lib.ListN.{replicate}
 use lib.Dec.{eqb}
-use borrow.Author.Tests.{eq-eqb, ne_eqb, eqb-false, not-true}
+use borrow.Author.Tests.{eq-eqb, ne_eqb}
 use Rattle.base.proofs.TestLaws.{cond-true, cond-false, false-true}
 use Rattle.records.specs.declared.Event.{Event}
-use Rattle.passing.specs.Sequence.{Answer, answer}
+use Rattle.passing.specs.Sequence.{Answer}
 use Rattle.passing.specs.Time.{due_by}
 use Rattle.ready.specs.Lists.{head_of}
 use Rattle.records.specs.Kinds.{by_kind}
@@ -24,16 +24,14 @@ use Rattle.ticks.specs.Running.{level, running, next}
 use Rattle.moments.specs.Moments.{passed}
 use Rattle.moments.specs.Reports.{reported}
 use Rattle.reports.specs.Tallies.{numbers}
-use Rattle.events.specs.Answers.{carries_over, executive}
+use Rattle.events.specs.Answers.{carries_over}
 use Rattle.events.specs.Reports.{own_back}
 use Rattle.answers.specs.Answer.{answered}
-use Rattle.trace_reader.specs.declared.Next.{Next}
-use Rattle.trace_reader.specs.declared.Next.TheVariants as next
+use Rattle.std.proofs.Common.{Option, Some, None}
 use Rattle.trace_reader.specs.Reader.{next_at, events_from}
 use Rattle.trace_reader.proofs.ReaderLaws.{from-event, from-none, from_end}
-use Rattle.executive.specs.declared.following.Found.{Found}
 use Rattle.executive.specs.declared.statuses.Stand.{Stand}
-use Rattle.executive.specs.Private.{sound_status, stand_of, settled_of, after_moments, carry_status_at, found_of, following_of}
+use Rattle.executive.specs.Private.{sound_status, stand_of, settled_of, after_moments, carry_status_at, following_of}
 use Rattle.executive.specs.Steps.{Given, last_given, answer_to, numbers_of}
 use Rattle.executive.proofs.StepLaws.{Stage, weight, due-later, starts, judged, carries}
 
@@ -47,11 +45,6 @@ runs-is s p h e f =
     same false x = refl
 
 -- ---- what tells nothing
-
--- no moment has fallen, and the event is no block
-pub silent-true : (quiet : Bool) (kind : ℕ) → cond quiet (not (eqb kind 1)) false ≡ true → (quiet ≡ true) × (kind ≡ 1 → ⊥)
-silent-true true kind e = (refl, eqb-false kind 1 (not-true (eqb kind 1) e))
-silent-true false kind e = false-true e
 
 pub own-none : (kind time : ℕ) (t : Thread) → (kind ≡ 1 → ⊥) → own_back kind time t ≡ 0
 own-none kind time t n = none kind _ n
@@ -77,29 +70,25 @@ less-left left n m l h = omega (arith, l, h)
 
 -- ---- the event after
 
-module _ (file : List ℕ) (offset : ℕ) (e : Event) where
-  -- what is found is the first of the events from there on, or there is none
-  pub record Follows (left : ℕ) (f : Found) : Type 0 where
-    pub one : f.more ≡ true → (0 < left) × (events_from file offset left ≡ f.event ∷ events_from file f.offset (left - 1))
-    pub none : f.more ≡ false → events_from file offset left ≡ []
-
+module _ (file : List ℕ) (offset : ℕ) where
   less : (k : ℕ) (f : Event) (after : ℕ) → f ∷ events_from file after k ≡ f ∷ events_from file after (suc k - 1)
   less k f after = let y : k ≡ suc k - 1 = omega arith in ap (λ (m : ℕ). f ∷ events_from file after m) y
 
-  finds : (k : ℕ) (n : Next) → next_at file offset ≡ n → Follows (suc k) (found_of e offset n)
-  finds k (next.Event f after) z = record { one = λ q. (omega arith, from-event file offset f after k z ∙ less k f after); none = λ q. false-true (sym q) }
-  finds k next.End z = record { one = λ q. false-true q; none = λ q. from_end file offset (suc k) z }
+  -- with no event left there is none, and else the reader's is the first
+  none-left : following_of file offset 0 ≡ None
+  none-left = cond-true (eqb 0 0) None (next_at file offset) (eq-eqb 0 0 refl)
 
-  follows : (left : ℕ) → Follows left (following_of file offset left e)
-  follows zero =
-      subst⁻¹ (Follows 0) (cond-true (eqb 0 0) (found_of e offset next.End) (found_of e offset (next_at file offset)) (eq-eqb 0 0 refl))
-      (record { one = λ q. false-true q; none = λ q. from-none file offset })
-  follows (suc k) =
-      subst⁻¹ (Follows (suc k)) (cond-false (eqb (suc k) 0) (found_of e offset next.End) (found_of e offset (next_at file offset)) (ne_eqb (suc k) 0 (λ z. omega (arith, z))))
-      (finds k (next_at file offset) refl)
+  some-left : (k : ℕ) → following_of file offset (suc k) ≡ next_at file offset
+  some-left k = cond-false (eqb (suc k) 0) None (next_at file offset) (ne_eqb (suc k) 0 (λ z. omega (arith, z)))
 
-  pub follows-as : (left : ℕ) (f : Found) → f ≡ following_of file offset left e → Follows left f
-  follows-as left f z = subst⁻¹ (Follows left) z (follows left)
+  pub follows-one : (left : ℕ) (f : Event) (after : ℕ) → following_of file offset left ≡ Some (f, after)
+      → (0 < left) × (events_from file offset left ≡ f ∷ events_from file after (left - 1))
+  follows-one zero f after z = let w : ◌≡◌ {A = Option (Event × ℕ)} None (Some (f, after)) = sym none-left ∙ z in absurd (cc)
+  follows-one (suc k) f after z = (omega arith, from-event file offset f after k (sym (some-left k) ∙ z) ∙ less k f after)
+
+  pub follows-none : (left : ℕ) → following_of file offset left ≡ None → events_from file offset left ≡ []
+  follows-none zero z = from-none file offset
+  follows-none (suc k) z = from_end file offset (suc k) (sym (some-left k) ∙ z)
 
 -- ---- how an event stands
 
@@ -197,25 +186,26 @@ pub record Running (file : List ℕ) (last : Given) (e : Event) (offset left : �
   pub silent : k.quiet ≡ true → (e.kind ≡ 1 → ⊥) → told ≡ replicate 128 0
 
 module _ (file : List ℕ) (last : Given) (e : Event) (offset left : ℕ) (k : Stand) (s : State) (told : List ℕ) (h : Running file last e offset left k s told) where
-  module _ (n : k.done ≡ true) (f : Found) (z : f ≡ following_of file offset left e) where
+  module _ (n : k.done ≡ true) where
     -- the next one begins
-    pub nexts : f.more ≡ true → (k' : Stand) (told' : List ℕ) → At s f.event k' s told' → told' ≡ replicate 128 0 → Running file last f.event f.offset (left - 1) k' s told'
+    pub nexts : (f : Event) (after : ℕ) → following_of file offset left ≡ Some (f, after) → (k' : Stand) (told' : List ℕ) → At s f k' s told' → told' ≡ replicate 128 0
+        → Running file last f after (left - 1) k' s told'
     unfolding last_given
-    nexts m k' told' g t =
+    nexts f after z k' told' g t =
         record {
           origin = s;
           stage = g;
-          same = ap (λ (x : State). last_given x f.event (events_from file f.offset (left - 1))) (ap (λ (x : Answer State). x.state) (h.stage.ended n).0)
-              ∙ sym (ap (last_given h.origin e) ((follows-as file offset e left f z).one m).1)
+          same = ap (λ (x : State). last_given x f (events_from file after (left - 1))) (ap (λ (x : Answer State). x.state) (h.stage.ended n).0)
+              ∙ sym (ap (last_given h.origin e) (follows-one file offset left f after z).1)
               ∙ h.same;
           silent = λ _ _. t;
         }
 
     -- or this was the last
-    pub lasts : f.more ≡ false → (answered k.status s ≡ answer_to last) × (told ≡ numbers_of last)
+    pub lasts : following_of file offset left ≡ None → (answered k.status s ≡ answer_to last) × (told ≡ numbers_of last)
     unfolding last_given
-    lasts m =
-        let y = sym (ap (last_given h.origin e) ((follows-as file offset e left f z).none m)) ∙ h.same in (
+    lasts z =
+        let y = sym (ap (last_given h.origin e) (follows-none file offset left z)) ∙ h.same in (
           (h.stage.ended n).0 ∙ ap answer_to y,
           (h.stage.ended n).1 ∙ ap numbers_of y,
         )

@@ -2,7 +2,7 @@
 use Prim.Native.Nat.{ℕ, ◌≤◌, ◌<◌}
 use mathlib.Core.Bool.{Bool, true, false, ◌&&◌}
 use mathlib.Core.Path.{◌≡◌, refl, sym, ap, ◌∙◌, subst⁻¹}
-use lib.ListN.{length, get_or}
+use lib.ListN.{get_or}
 use lib.Dec.{ltb, eqb}
 use native.Mathlib.Omega.{arith}
 use borrow.Author.Tests.{not-false}
@@ -63,12 +63,6 @@ budget-most p r l =
 module _ (s : State) (a : sound_state s ≡ true) where
   sound : Sound s
   sound = state-out s a
-
-  pub dues-length : length s.dues ≡ 256
-  dues-length = omega (tests, sound.sizes)
-
-  pub amounts-length : length s.amounts ≡ 256
-  amounts-length = omega (tests, sound.sizes)
 
   pub block-requires : (i : ℕ) → i < 32 → (q : Pending) → q ≡ pending_at s i → 1 < (thread_at s i).parameters.policy
       → Schedulable (thread_at s i).parameters (thread_at s i).server q.count

@@ -1,65 +1,16 @@
 -- The status numbers that fields and state give, case by case.
 use Prim.Native.Nat.{ℕ, ◌+◌, ◌≤◌, ◌<◌}
 use mathlib.Core.Bool.{Bool, true, false, cond, not, ◌&&◌}
-use mathlib.Core.Path.{◌≡◌, refl, sym, ap, ◌∙◌}
+use mathlib.Core.Path.{◌≡◌, refl, sym}
 use mathlib.Core.List.{[], ◌∷◌}
 use lib.Dec.{leb, eqb}
 use native.Mathlib.Omega.{arith}
-use borrow.Author.Tests.{ne_eqb}
 use Rattle.records.specs.declared.Event.{Event}
 use borrow.Author.Tests.{lt-ltb, le-ltb, ltb-false, leb-false, eqb-true, not-false}
 use Rattle.base.specs.Refusals.{first_refusal}
 use Rattle.base.proofs.RefusalLaws.{passed, given-first, given-second, given-passed, status-at-most}
 use Rattle.executive.specs.Private.{time_status, early_status}
-use Rattle.events.specs.Answers.{bad_kind, bad_thread, bad_parameters, field_status_of, state_status_of}
-
-module _ (n : ℕ) (e : Event) where
-  pub field-kind : bad_kind e ≡ true → field_status_of n e ≡ 4
-  unfolding field_status_of first_refusal
-  field-kind a = simp a
-
-  pub field-thread : bad_kind e ≡ false → bad_thread n e ≡ true → field_status_of n e ≡ 5
-  unfolding field_status_of first_refusal
-  field-thread a b = simp (a, b)
-
-  pub field-parameters : bad_kind e ≡ false → bad_thread n e ≡ false → bad_parameters e ≡ true → field_status_of n e ≡ 6
-  unfolding field_status_of first_refusal
-  field-parameters a b c = simp (a, b, c)
-
-  pub field-right : bad_kind e ≡ false → bad_thread n e ≡ false → bad_parameters e ≡ false → field_status_of n e ≡ 0
-  unfolding field_status_of first_refusal
-  field-right a b c = simp (a, b, c)
-
-at_one : (idle blocked : Bool) → state_status_of 1 idle blocked false ≡ cond idle 7 0
-unfolding state_status_of first_refusal
-at_one true blocked = refl
-at_one false blocked = refl
-
-at-two : (idle blocked : Bool) → state_status_of 2 idle blocked false ≡ cond idle 7 0
-unfolding state_status_of first_refusal
-at-two true blocked = refl
-at-two false blocked = refl
-
-at-three : (idle blocked : Bool) → state_status_of 3 idle blocked false ≡ cond (not blocked) 8 0
-unfolding state_status_of first_refusal
-at-three idle true = refl
-at-three idle false = refl
-
-module _ (k : ℕ) (idle blocked : Bool) where
-  -- block and yield want a running thread
-  pub state-block : k ≡ 1 → state_status_of k idle blocked false ≡ cond idle 7 0
-  state-block e = ap (λ (x : ℕ). state_status_of x idle blocked false) e ∙ at_one idle blocked
-
-  pub state-yield : k ≡ 2 → state_status_of k idle blocked false ≡ cond idle 7 0
-  state-yield e = ap (λ (x : ℕ). state_status_of x idle blocked false) e ∙ at-two idle blocked
-
-  -- wake wants a blocked one
-  pub state-wake : k ≡ 3 → state_status_of k idle blocked false ≡ cond (not blocked) 8 0
-  state-wake e = ap (λ (x : ℕ). state_status_of x idle blocked false) e ∙ at-three idle blocked
-
-  pub state-other : (k ≡ 1 → ⊥) → (k ≡ 2 → ⊥) → (k ≡ 3 → ⊥) → state_status_of k idle blocked false ≡ 0
-  unfolding state_status_of first_refusal
-  state-other a b c = simp (ne_eqb k 1 a, ne_eqb k 2 b, ne_eqb k 3 c)
+use Rattle.events.specs.Answers.{field_status_of, state_status_of}
 
 -- ---- by the time
 

@@ -1,6 +1,6 @@
 -- The numbers that an event tells, from turn to turn of its loop: nothing before time passes, then those of the moments up to its
 -- time, and at the end those of its own effect too.
-use Prim.Native.Nat.{ℕ, zero, suc, ◌+◌, ◌*◌, ◌≤◌, ◌<◌}
+use Prim.Native.Nat.{ℕ, zero, suc, ◌+◌, ◌≤◌, ◌<◌}
 use mathlib.Core.Bool.{false}
 use mathlib.Core.Path.{◌≡◌, refl, sym, ap, ap₂, ◌∙◌, subst⁻¹}
 use mathlib.Core.List.{List}
@@ -8,7 +8,6 @@ use lib.ListN.{replicate}
 use native.Mathlib.Omega.{arith}
 use Rattle.records.specs.declared.Event.{Event}
 use Rattle.records.specs.Ranges.{by_policy}
-use Rattle.records.proofs.PolicyLaws.{policy-low, policy-sporadic}
 use Rattle.sporadic.specs.Rules.{block_effect}
 use Rattle.passing.specs.Time.{due_by}
 use Rattle.passing.specs.Sequence.{status}
@@ -30,24 +29,6 @@ use Rattle.events.specs.Reports.{own_log_of, own_back, event_numbers}
 use Rattle.events.proofs.ReportLaws.{used-most, block_back, only-blocks-tell, both_told}
 
 -- ---- an event's own effect
-
--- by the kind of event and the policy
-pub back_none : (kind time : ℕ) (t : Thread) → (kind ≡ 1 → ⊥) → own_back kind time t ≡ 0
-back_none zero time t d = refl
-back_none (suc zero) time t d = absurd (d refl)
-back_none (suc (suc zero)) time t d = refl
-back_none (suc (suc (suc zero))) time t d = refl
-back_none (suc (suc (suc (suc k)))) time t d = refl
-
-pub back_low : (kind time : ℕ) (t : Thread) → t.parameters.policy < 2 → own_back kind time t ≡ 0
-back_low zero time t l = refl
-back_low (suc zero) time t l = policy-low t.parameters.policy 0 _ l
-back_low (suc (suc zero)) time t l = refl
-back_low (suc (suc (suc zero))) time t l = refl
-back_low (suc (suc (suc (suc k)))) time t l = refl
-
-pub back-block : (kind time : ℕ) (t : Thread) → kind ≡ 1 → 2 ≤ t.parameters.policy → own_back kind time t ≡ (block_effect time false t.parameters t.server).back
-back-block kind time t k l = ap (λ (n : ℕ). own_back n time t) k ∙ policy-sporadic t.parameters.policy _ _ _ l
 
 -- U at most
 own-most : (kind time : ℕ) (t : Thread) → own_back kind time t ≤ t.server.used

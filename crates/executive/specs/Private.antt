@@ -1,6 +1,6 @@
 -- What only private functions promise: the statuses of an event in the order in which the code judges them, and its change as the code
 -- puts it in place.
-use Rattle.std.specs.Prelude.{ℕ, ◌+◌, ◌<◌}
+use Rattle.std.specs.Prelude.{ℕ, ◌+◌, ◌<◌, Option, None}
 use mathlib.Core.{Bool.Bool, Bool.true, Bool.false, Bool.cond, Bool.not, List.List, List.[], List.◌∷◌, Path.◌≡◌}
 use lib.{ListN.get_or, ListN.set, Dec.ltb, Dec.eqb}
 use Rattle.records.specs.{declared.Event.Event, Ranges.last_time, Ranges.longest_step}
@@ -14,9 +14,8 @@ use Rattle.thread.specs.{declared.Thread.Thread, Thread.with_server}
 use Rattle.state.specs.{declared.State.State, State.thread_at}
 use Rattle.ticks.specs.Running.{ran}
 use Rattle.events.specs.{declared.Change.Change, Events.change_of, Answers.field_status_of, Answers.refuses_carry, Answers.state_status_of, Reports.own_back}
-use Rattle.trace_reader.specs.{declared.Next.Next, Reader.next_at}
-use Rattle.trace_reader.specs.declared.Next.TheVariants as next
-use Rattle.executive.specs.declared.{changes.Left.Left, following.Found.Found, statuses.Stand.Stand}
+use Rattle.trace_reader.specs.Reader.{next_at}
+use Rattle.executive.specs.declared.{changes.Left.Left, statuses.Stand.Stand}
 
 -- 01 Status 2 to 4 and 15: by the time, 3, 1 or 2
 unfoldable pub time_status : ℕ → ℕ → ℕ
@@ -76,11 +75,6 @@ abbrev pub InPlace : ℕ → Pending → List ℕ → List ℕ → List ℕ → 
 InPlace i q counts dues amounts counts' dues' amounts' =
     (counts' ≡ set counts i q.count) × (dues' ≡ with_slots i q.dues dues) × (amounts' ≡ with_slots i q.amounts amounts)
 
--- the event that the reader finds, with the offset after it, or that there is none
-abbrev pub found_of : Event → ℕ → Next → Found
-found_of e offset (next.Event f after) = record { more = true; event = f; offset = after }
-found_of e offset next.End = record { more = false; event = e; offset = offset }
-
--- the first of at most `left` events of a file from an offset on
-abbrev pub following_of : List ℕ → ℕ → ℕ → Event → Found
-following_of file offset left e = cond (eqb left 0) (found_of e offset next.End) (found_of e offset (next_at file offset))
+-- the first of at most `left` events of a file from an offset on, with the offset after it, or that there is none
+abbrev pub following_of : List ℕ → ℕ → ℕ → Option (Event × ℕ)
+following_of file offset left = cond (eqb left 0) None (next_at file offset)

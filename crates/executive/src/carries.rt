@@ -1,11 +1,14 @@
 // Whether a set that carries an account over is refused with 15, which is judged at the event's time.
 ghost use Rattle.std.specs.Prelude.{◌≡◌, true, false, cond, ◌&&◌, ◌+◌, ◌-◌, ◌≤◌, ◌<◌, ◌^◌, ltb, eqb, get_or};
+ghost use Rattle.base.specs.Status.{as_status};
 ghost use Rattle.records.specs.Ranges.{most_threads};
 ghost use Rattle.thread.specs.Thread.{no_thread};
 ghost use Rattle.executive.specs.Private.{carry_status, ran_up_to, settled_of, after_moments};
 
 use super::statuses::Stand;
-use records::Event;
+use base::Refusal;
+use events::SET;
+use records::{Event, SCHED_RR};
 use state::Core;
 use thread::Thread;
 
@@ -14,34 +17,27 @@ use thread::Thread;
 pub(super) fn carries_over(kind: u8, old: u8, new: u8) -> bool
     ensures { result ≡ (eqb kind 4 && (ltb 1 old && ltb 1 new)) }
 {
-    if kind != 4 {
-        return false;
-    }
-    if old < 2 {
-        return false;
-    }
-    1 < new
+    kind == SET && SCHED_RR < old && SCHED_RR < new
 }
 
-// 15 where the account of the thread, as it is at the event's time, can't be carried over, else 0.
-fn carry_status(e: Event, t: Thread, count: u8) -> u8
-    ensures { result ≡ carry_status e t count }
+// Whether the account of the thread, as it is at the event's time, can be carried over; refused with 15.
+fn carry_status(e: Event, t: Thread, count: u8) -> Result<(), Refusal>
+    ensures { as_status result ≡ carry_status e t count }
 {
-    if carries_over(e.kind, t.parameters.policy, e.parameters.policy) {
-        let old = t.parameters;
-        let new = e.parameters;
-        if carrying::cant_carry(old, new, t.server.capacity, count, 0 < t.blocked) {
-            return base::NOT_CARRIED;
-        }
-        return 0;
+    let (old, new) = (t.parameters, e.parameters);
+    if carries_over(e.kind, old.policy, new.policy)
+        && carrying::cant_carry(old, new, t.server.capacity, count, 0 < t.blocked)
+    {
+        return Err(Refusal::NotCarried);
     }
-    0
+    Ok(())
 }
 
 // How an event stands whose status is judged whole.
-fn settled(status: u8, quiet: bool) -> Stand
-    ensures { result ≡ settled_of status quiet }
+fn settled(answer: Result<(), Refusal>, quiet: bool) -> Stand
+    ensures { result ≡ settled_of (as_status answer) quiet }
 {
+    let status = base::as_status(answer);
     Stand {
         status,
         done: status != 0,
@@ -50,14 +46,14 @@ fn settled(status: u8, quiet: bool) -> Stand
     }
 }
 
-// 15 or 0 where no moment falls up to the event: up to its time the thread t that it names has run in list `level`, if it
+// Whether it can be where no moment falls up to the event: up to its time the thread t that it names has run in list `level`, if it
 // is the head, and otherwise stays as it is.
-fn status_now(e: Event, t: Thread, count: u8, level: u8, head: u8, now: u64) -> u8
+fn status_now(e: Event, t: Thread, count: u8, level: u8, head: u8, now: u64) -> Result<(), Refusal>
     requires { (now ≤ e.time)
         × (head ≡ e.thread → eqb level 0 ≡ false → (t.total + (e.time - now) < 2 ^ 64) × (t.server.used + (e.time - now) < 2 ^ 64)
         × (t.parameters.policy ≡ 1 → e.time - now ≤ t.left)
         × (1 < t.parameters.policy → level ≡ t.parameters.priority → e.time - now ≤ t.server.capacity)) }
-    ensures { result ≡ carry_status e (ran_up_to (e.time - now) level head e.thread t) count }
+    ensures { as_status result ≡ carry_status e (ran_up_to (e.time - now) level head e.thread t) count }
 {
     if head == e.thread {
         let k = e.time - now;
@@ -73,15 +69,13 @@ pub(super) fn judged(stand: Stand, e: Event, s: Core) -> Stand
 {
     if !stand.judging {
         return Stand {
-            status: stand.status,
-            done: stand.done,
             judging: false,
             quiet: false,
+            ..stand
         };
     }
-    let i = base::wide(e.thread);
-    let t = s.threads[i];
-    settled(carry_status(e, t, s.counts[i]), false)
+    let i = usize::from(e.thread);
+    settled(carry_status(e, s.threads[i], s.counts[i]), false)
 }
 
 // The same where no moment falls up to the event.

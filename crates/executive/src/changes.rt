@@ -1,23 +1,21 @@
 // What an event does to the state at its time.
-ghost use Rattle.std.specs.Prelude.{◌≡◌, cond, ◌<◌, ◌^◌, leb, length};
+ghost use Rattle.std.specs.Prelude.{◌≡◌, cond, ◌<◌, ◌^◌, leb};
 ghost use Rattle.records.specs.Ranges.{most_threads};
 ghost use Rattle.reports.specs.Tallies.{back_tally, more_of};
-ghost use Rattle.rows.specs.Rows.{all_slots};
 ghost use Rattle.sporadic.specs.Rules.{due_of};
 ghost use Rattle.sporadic.specs.Carry.{Carryable};
 ghost use Rattle.account.specs.Rules.{Schedulable};
 ghost use Rattle.ready.specs.Word.{occupancy};
 ghost use Rattle.ready.specs.Rules.{Joinable, Leavable, Movable};
-ghost use Rattle.thread.specs.Thread.{with_server};
 ghost use Rattle.events.specs.Events.{becomes, change_of, shifted};
 ghost use Rattle.events.specs.Reports.{own_back};
 ghost use Rattle.executive.specs.Private.{change_in, left_of, Happens, InPlace};
 
 use super::parts;
 use account::{Account, Pending};
-use events::Change;
+use events::{BLOCK, Change, WAKE, YIELD};
 use ready::LIST_BYTES;
-use records::{Event, THREADS};
+use records::{Event, SCHED_SPORADIC, THREADS};
 use reports::NUMBERS;
 use rows::Slots;
 use thread::Thread;
@@ -34,7 +32,7 @@ pub struct Left {
 pub(super) fn concerned(kind: u8, thread: u8, head: u8) -> u8
     ensures { result ≡ cond (leb kind 2) head thread }
 {
-    if kind <= 2 {
+    if kind <= YIELD {
         return head;
     }
     thread
@@ -44,8 +42,7 @@ pub(super) fn concerned(kind: u8, thread: u8, head: u8) -> u8
 fn change_to(t: Thread, a: Account, u: Thread, b: Account) -> Change
     ensures { result ≡ becomes t a u b }
 {
-    let v = b.server;
-    let then = thread_updates::with_server(u, v);
+    let then = thread_updates::with_server(u, b.server);
     Change {
         thread: u,
         account: b,
@@ -60,29 +57,26 @@ fn change_of(e: Event, t: Thread, q: Pending) -> Change
         × (3 < e.kind → 1 < t.parameters.policy → 1 < e.parameters.policy → Carryable t.parameters e.parameters t.server.capacity) }
     ensures { result ≡ change_of e.kind e.time e.parameters t (record { server = t.server; pending = q }) }
 {
-    let v = t.server;
     let a = Account {
-        server: v,
+        server: t.server,
         pending: q,
     };
-    if e.kind == 1 {
+    if e.kind == BLOCK {
         let u = thread_updates::with_blocked(t, 1);
         let b = parts::after_block(e.time, t, a);
         return change_to(t, a, u, b);
     }
-    if e.kind == 2 {
+    if e.kind == YIELD {
         let u = thread::full_quantum(t);
         return change_to(t, a, u, a);
     }
-    if e.kind == 3 {
+    if e.kind == WAKE {
         let u = thread_updates::with_blocked(thread::full_quantum(t), 0);
         let b = parts::after_wake(e.time, t, a);
         return change_to(t, a, u, b);
     }
-    let p = e.parameters;
-    let u = thread::renew(p, t);
-    let old = t.parameters;
-    let b = account_making::set_account(old, p, a, 0 < t.blocked, e.time);
+    let u = thread::renew(e.parameters, t);
+    let b = account_making::set_account(t.parameters, e.parameters, a, 0 < t.blocked, e.time);
     change_to(t, a, u, b)
 }
 
@@ -91,24 +85,13 @@ fn own_back(e: Event, t: Thread) -> u64
     requires { e.kind ≡ 1 → 1 < t.parameters.policy → due_of t.parameters t.server < 2 ^ 64 }
     ensures { result ≡ own_back e.kind e.time t }
 {
-    if e.kind != 1 {
+    if e.kind != BLOCK {
         return 0;
     }
-    if t.parameters.policy < 2 {
+    if t.parameters.policy < SCHED_SPORADIC {
         return 0;
     }
-    let p = t.parameters;
-    let v = t.server;
-    let effect = effects::block_effect(p, v, false, e.time);
-    effect.back
-}
-
-// The thread with its account's server.
-fn served(t: Thread, a: Account) -> Thread
-    ensures { result ≡ with_server a.server t }
-{
-    let v = a.server;
-    thread_updates::with_server(t, v)
+    effects::block_effect(t.parameters, t.server, false, e.time).back
 }
 
 // What an event does at its time to thread t at place i, which it concerns: its entries and what it tells are written.
@@ -121,8 +104,7 @@ pub(super) fn happen(
     amounts: &mut Slots,
     told: &mut [u64; NUMBERS],
 ) -> Left
-    requires { (i < most_threads) × (length dues.old ≡ all_slots) × (length amounts.old ≡ all_slots)
-        × Happens e t i counts.old told.old }
+    requires { (i < most_threads) × Happens e t i counts.old told.old }
     ensures value { result ≡ left_of (change_in e t i counts.old dues.old amounts.old) }
     ensures in_place { InPlace i (change_in e t i counts.old dues.old amounts.old).account.pending
         counts.old dues.old amounts.old counts.new dues.new amounts.new }
@@ -131,13 +113,10 @@ pub(super) fn happen(
     reports::tell_back(told, i, own_back(e, t));
     let q = pending_rows::pending_at(counts, dues, amounts, i);
     let c = change_of(e, t, q);
-    let u = c.thread;
-    let b = c.account;
-    let pending = b.pending;
-    counts[i] = pending.count;
-    pending_rows::write_pending(dues, amounts, i, pending);
+    counts[i] = c.account.pending.count;
+    pending_rows::write_pending(dues, amounts, i, c.account.pending);
     Left {
-        thread: served(u, b),
+        thread: thread_updates::with_server(c.thread, c.account.server),
         from: c.from,
         to: c.to,
     }

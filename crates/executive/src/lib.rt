@@ -1,7 +1,7 @@
 // The executive: events and their answers. The state goes as a core by value with its slots lent.
 #![tactic(auto)]
 
-ghost use Rattle.std.specs.Prelude.{◌≡◌, true, false, ◌*◌, length, replicate};
+ghost use Rattle.std.specs.Prelude.{◌≡◌, true, false, ◌*◌, replicate};
 ghost use Rattle.records.specs.Ranges.{most_threads};
 ghost use Rattle.reports.specs.Tallies.{per_thread};
 ghost use Rattle.state.specs.Sound.{sound_state};
@@ -14,6 +14,8 @@ ghost use Rattle.trace_reader.specs.Reader.{events_from};
 ghost use Rattle.executive.specs.Steps.{last_given, answer_to, numbers_of};
 
 use answers::Answer;
+use base::Refusal;
+use events::CLOCK;
 use ready::LIST_BYTES;
 use records::{Event, THREADS};
 use reports::NUMBERS;
@@ -38,19 +40,14 @@ fn tested<'a>(
     lists: &'a [u8; LIST_BYTES],
 ) -> bool
     requires { (known ≡ true → sound_state (whole s dues.now amounts.now) ≡ true)
-        × (length counts.now ≡ most_threads) × (counts.now ≡ s.counts) × (lists.now ≡ s.lists) }
+        × (counts.now ≡ s.counts) × (lists.now ≡ s.lists) }
     ensures { result ≡ sound_state (whole s dues.now amounts.now) }
 {
     if known {
         return true;
     }
-    // lent as slices, so that their lengths are known
-    rows::slots(dues);
-    rows::slots(amounts);
-    let header = s.header;
-    let threads = s.threads;
     parts_sound::sound_parts(
-        header, s.now, s.idle, s.word, threads, counts, dues, amounts, lists,
+        s.header, s.now, s.idle, s.word, s.threads, counts, dues, amounts, lists,
     )
 }
 
@@ -87,7 +84,7 @@ fn answer_last(
 {
     clear(known, told);
     if !tested(known, s, &s.counts, dues, amounts, &s.lists) {
-        return answers::nothing_runs(base::NOT_SOUND, s);
+        return answers::nothing_runs(u8::from(Refusal::NotSound), s);
     }
     let mut t = s.threads[parts::index(e.thread)];
     let mut stand = statuses::begun(s.header.n, s.now, s.word, t, e);
@@ -95,16 +92,22 @@ fn answer_last(
         let n = s.header.n as usize;
         let level = ready::highest(s.word);
         let h = running::head_at(&s.lists, level);
-        let i = base::wide(h);
+        let i = usize::from(h);
         let runner = s.threads[i];
         let next = next_moment::next_moment(s.now, level, runner, &s.counts, dues, n);
         if stand.done {
-            let f = following::following(file, offset, left, e, told, stand.quiet);
-            if !f.more {
+            let Some((event, after)) = following::following(
+                file,
+                offset,
+                left,
+                e,
+                told,
+                stand.quiet,
+            ) else {
                 return answers::answer_of(stand.status, parts::runs(level, h), next, s);
-            }
-            e = f.event;
-            offset = f.offset;
+            };
+            e = event;
+            offset = after;
             left -= 1;
             t = s.threads[parts::index(e.thread)];
             stand = statuses::begun(s.header.n, s.now, s.word, t, e);
@@ -123,7 +126,7 @@ fn answer_last(
             continue;
         }
         if stand.judging {
-            let w = base::wide(e.thread);
+            let w = usize::from(e.thread);
             t = s.threads[w];
             stand = carries::judged_now(e, t, s.counts[w], level, h, s.now);
             continue;
@@ -133,11 +136,11 @@ fn answer_last(
         s.threads[i] = ticks::charged_thread(level, k, runner);
         s.idle = ticks::charged_idle(level, k, s.idle);
         s.now = e.time;
-        if e.kind == 0 {
+        if e.kind == CLOCK {
             continue;
         }
         let number = changes::concerned(e.kind, e.thread, h);
-        let j = base::wide(number);
+        let j = usize::from(number);
         t = s.threads[j];
         let c = changes::happen(e, t, j, &mut s.counts, dues, amounts, told);
         t = c.thread;
@@ -165,7 +168,7 @@ pub fn steps(
     answer_last(c, dues, amounts, told, e, file, offset, left, true)
 }
 
-// An event for a state that is known to be sound, with numbers that are zeros.
+// An event for a state that is known to be sound, with numbers that are zeros. Apart from `event`, since it requires what that one tests.
 pub fn step(
     c: Core,
     dues: &mut Slots,
@@ -177,8 +180,7 @@ pub fn step(
     ensures amounts_after { answer_of result dues.new amounts.new ≡ answer executive (whole c dues.old amounts.old) e }
     ensures numbers { told.new ≡ event_numbers (whole c dues.old amounts.old) e }
 {
-    let none = [0u8; 1];
-    answer_last(c, dues, amounts, told, e, &none, 0, 0, true)
+    answer_last(c, dues, amounts, told, e, &[], 0, 0, true)
 }
 
 // An event for any state: one that is not sound is refused with 9 and comes back as it was. What happened while time
@@ -193,6 +195,5 @@ pub fn event(
     ensures amounts_after { answer_of result dues.new amounts.new ≡ answer executive (whole c dues.old amounts.old) e }
     ensures numbers { told.new ≡ event_numbers (whole c dues.old amounts.old) e }
 {
-    let none = [0u8; 1];
-    answer_last(c, dues, amounts, told, e, &none, 0, 0, false)
+    answer_last(c, dues, amounts, told, e, &[], 0, 0, false)
 }

@@ -1,7 +1,5 @@
 // A state with one field changed, by the number of the field.
-use ready::LIST_BYTES;
-use records::{Parameters, THREADS};
-use rows::SLOTS;
+use records::Parameters;
 use state::State;
 use thread::Thread;
 
@@ -14,97 +12,65 @@ pub(super) fn word(value: u64) -> u32 {
 }
 
 // 11 to 17: the parameters.
-fn of_parameters(p: Parameters, what: u64, value: u64) -> Parameters {
-    let mut q = p;
+fn change_parameters(p: &mut Parameters, what: u64, value: u64) {
     match what {
-        11 => q.policy = byte(value),
-        12 => q.priority = byte(value),
-        13 => q.low = byte(value),
-        14 => q.max_repl = byte(value),
-        15 => q.flag = word(value),
-        16 => q.budget = value,
-        17 => q.period = value,
+        11 => p.policy = byte(value),
+        12 => p.priority = byte(value),
+        13 => p.low = byte(value),
+        14 => p.max_repl = byte(value),
+        15 => p.flag = word(value),
+        16 => p.budget = value,
+        17 => p.period = value,
         _ => {}
     }
-    q
 }
 
 // 11 to 26: a thread.
-fn of_thread(t: Thread, what: u64, value: u64) -> Thread {
-    let mut u = t;
-    let p = t.parameters;
-    u.parameters = of_parameters(p, what, value);
+fn change_thread(t: &mut Thread, what: u64, value: u64) {
     match what {
-        21 => u.blocked = byte(value),
-        22 => u.total = value,
-        23 => u.left = value,
-        24 => u.server.capacity = value,
-        25 => u.server.used = value,
-        26 => u.server.activation = value,
-        _ => {}
+        21 => t.blocked = byte(value),
+        22 => t.total = value,
+        23 => t.left = value,
+        24 => t.server.capacity = value,
+        25 => t.server.used = value,
+        26 => t.server.activation = value,
+        _ => change_parameters(&mut t.parameters, what, value),
     }
-    u
 }
 
 // 1 to 5: N, the start time, the time now, the idle time and the word.
-fn of_clocks(s: State, what: u64, value: u64) -> State {
-    let mut r = s;
-    let short = word(value);
+fn change_clocks(s: &mut State, what: u64, value: u64) {
     match what {
-        1 => r.header.n = short,
-        2 => r.header.start = value,
-        3 => r.now = value,
-        4 => r.idle = value,
-        5 => r.word = short,
+        1 => s.header.n = word(value),
+        2 => s.header.start = value,
+        3 => s.now = value,
+        4 => s.idle = value,
+        5 => s.word = word(value),
         _ => {}
     }
-    r
 }
 
-// 32 and 33: place `at` of the dues and the amounts; thread i's places are 8 i to 8 i + 7.
-fn of_pending(s: State, what: u64, at: usize, value: u64) -> State {
-    if SLOTS <= at {
-        return s;
+// Place `at`, where there is one.
+fn put<T: Copy>(places: &mut [T], at: usize, x: T) {
+    if at < places.len() {
+        places[at] = x;
     }
-    let mut r = s;
-    if what == 32 {
-        r.dues[at] = value;
-    } else {
-        r.amounts[at] = value;
-    }
-    r
 }
 
-// 11 to 31: thread `at`, and its pending count.
-fn of_threads(s: State, what: u64, at: usize, value: u64) -> State {
-    if THREADS <= at {
-        return s;
-    }
-    let mut r = s;
-    if what == 31 {
-        r.counts[at] = byte(value);
-        return r;
-    }
-    let t = r.threads[at];
-    r.threads[at] = of_thread(t, what, value);
-    r
-}
-
-// The state with the field `what`, at `place`, changed to `value`; 34 is a byte of the lists.
-pub(super) fn changed(s: State, what: u64, place: u64, value: u64) -> State {
+// Changes the field `what`, at `place`, to `value`. 11 to 26 are of thread `place`, 31 is its pending count, 32 a due and 33 an
+// amount, thread i's at the places 8 i to 8 i + 7; 34 is a byte of the lists.
+pub(super) fn change(s: &mut State, what: u64, place: u64, value: u64) {
     let at = place as usize;
-    if what < 11 {
-        return of_clocks(s, what, value);
+    match what {
+        0..=10 => change_clocks(s, what, value),
+        11..=30 => {
+            if at < s.threads.len() {
+                change_thread(&mut s.threads[at], what, value);
+            }
+        }
+        31 => put(&mut s.counts, at, byte(value)),
+        32 => put(&mut s.dues, at, value),
+        33 => put(&mut s.amounts, at, value),
+        _ => put(&mut s.lists, at, byte(value)),
     }
-    if what < 32 {
-        return of_threads(s, what, at, value);
-    }
-    if what < 34 {
-        return of_pending(s, what, at, value);
-    }
-    let mut r = s;
-    if at < LIST_BYTES {
-        r.lists[at] = byte(value);
-    }
-    r
 }

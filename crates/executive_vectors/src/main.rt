@@ -2,7 +2,6 @@
 #![tactic(auto)]
 
 mod change; // change.rt: a state with one field changed
-mod compare; // compare.rt: two states compared field by field
 mod line; // line.rt: a line of the input
 mod look; // look.rt: four numbers of a state
 mod make; // make.rt: parameters, events and the state of zeros
@@ -16,15 +15,12 @@ const STDIN_FILENO: i32 = 0;
 fn cases(file: &[u8]) {
     let mut r = run::start();
     let mut l = line::start(0, 0);
-    let mut i: usize = 0;
-    while i < file.len() {
-        let b = file[i];
-        i = i + 1;
-        if b == b'\n' {
+    for i in 0..file.len() {
+        if file[i] == b'\n' {
             r = run::step(r, l, file);
-            l = line::start(i, i);
+            l = line::start(i + 1, i + 1);
         } else {
-            l = line::with_byte(l, b, i);
+            l = line::with_byte(l, file[i], i + 1);
         }
     }
     report::finish(r.tally);

@@ -1,21 +1,20 @@
 // Parameters, events and the state of zeros.
+ghost use Rattle.std.specs.Prelude.{◌≤◌};
+
 use super::change;
+use super::line::NUMBERS;
 use ready::LIST_BYTES;
-use records::{Event, Header, Parameters, THREADS};
+use records::{Event, Parameters, THREADS};
 use rows::SLOTS;
 use sporadic::Server;
 use state::State;
 use thread::Thread;
-
-pub(super) fn wide(x: u8) -> u64 {
-    x as u64
-}
+use trace_records::{NO_HEADER, NO_PARAMETERS};
 
 // The seven parameters that stand from place k on.
-pub(super) fn parameters(x: [u64; 20], k: usize) -> Parameters {
-    if 13 < k {
-        return none();
-    }
+pub(super) fn parameters(x: [u64; NUMBERS], k: usize) -> Parameters
+    requires { k ≤ 13 }
+{
     Parameters {
         policy: change::byte(x[k]),
         priority: change::byte(x[k + 1]),
@@ -24,18 +23,6 @@ pub(super) fn parameters(x: [u64; 20], k: usize) -> Parameters {
         flag: change::word(x[k + 4]),
         budget: x[k + 5],
         period: x[k + 6],
-    }
-}
-
-pub(super) fn none() -> Parameters {
-    Parameters {
-        policy: 0,
-        priority: 0,
-        low: 0,
-        max_repl: 0,
-        flag: 0,
-        budget: 0,
-        period: 0,
     }
 }
 
@@ -52,7 +39,7 @@ fn kind_of(op: u8, number: u64) -> u8 {
 }
 
 // An event: the time, the thread, the parameters.
-pub(super) fn event(op: u8, x: [u64; 20]) -> Event {
+pub(super) fn event(op: u8, x: [u64; NUMBERS]) -> Event {
     Event {
         time: x[0],
         kind: kind_of(op, x[9]),
@@ -64,7 +51,7 @@ pub(super) fn event(op: u8, x: [u64; 20]) -> Event {
 // No threads and zeros.
 pub(super) fn zeros() -> State {
     let nobody = Thread {
-        parameters: none(),
+        parameters: NO_PARAMETERS,
         blocked: 0,
         total: 0,
         left: 0,
@@ -75,14 +62,14 @@ pub(super) fn zeros() -> State {
         },
     };
     State {
-        header: Header { n: 0, start: 0 },
+        header: NO_HEADER,
         now: 0,
         idle: 0,
         word: 0,
         threads: [nobody; THREADS],
-        counts: [0u8; THREADS],
-        dues: [0u64; SLOTS],
-        amounts: [0u64; SLOTS],
-        lists: [0u8; LIST_BYTES],
+        counts: [0; THREADS],
+        dues: [0; SLOTS],
+        amounts: [0; SLOTS],
+        lists: [0; LIST_BYTES],
     }
 }

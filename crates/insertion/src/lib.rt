@@ -4,7 +4,6 @@
 ghost use Rattle.std.specs.Prelude.{◌≡◌, ◌<◌, ◌≤◌};
 ghost use Rattle.entries.specs.Entries.{entries, slot_for, inserted, slots_after, Room};
 
-use base::wide;
 use entries::ENTRIES;
 
 // How many of the first `count` dues stand before one that is due at `due`, sought from the last.
@@ -12,13 +11,10 @@ fn slot_for(dues: [u64; ENTRIES], count: usize, due: u64) -> usize
     requires { count ≤ entries }
     ensures { result ≡ slot_for due count dues }
 {
-    let mut k = count;
-    while 0 < k {
-        let d = dues[k - 1];
-        if d <= due {
-            return k;
+    for k in (0..count).rev() {
+        if dues[k] <= due {
+            return k + 1;
         }
-        k = k - 1;
     }
     0
 }
@@ -29,12 +25,8 @@ fn insert(xs: [u64; ENTRIES], k: usize, n: usize, x: u64) -> [u64; ENTRIES]
     ensures { result ≡ inserted k n x xs }
 {
     let mut r = xs;
-    let mut i = n;
-    while k < i {
-        r[i] = xs[i - 1];
-        i = i - 1;
-    }
-    r[i] = x;
+    r.copy_within(k..n, k + 1);
+    r[k] = x;
     r
 }
 
@@ -57,7 +49,7 @@ pub fn slots_after(
     if amount == 0 {
         return xs;
     }
-    let n = wide(count);
+    let n = usize::from(count);
     let k = slot_for(dues, n, due);
     insert(xs, k, n, x)
 }

@@ -7,12 +7,13 @@ ghost use Rattle.listing.specs.Listing.{listed_of, buffer_of, largest};
 mod lines; // lines.rt: one line of each kind
 mod replay; // replay.rt: the lines of a file
 
+use base::Refusal;
 use text::put_word;
 
 // A buffer of so many bytes is long enough for every file's listing.
 pub const LARGEST: usize = 54000;
 
-// 0 and how many bytes were written, or 12 and 0 where the buffer is too short.
+// 0 and how many bytes were written, or 12 and 0 where the buffer is too short. A number and no `Result`: C gets it.
 #[repr(C)]
 #[derive(Clone, Copy)]
 pub struct Listed {
@@ -30,7 +31,7 @@ pub fn listing(file: &[u8], out: &mut [u8]) -> Listed
     let length = replay::put_listing(&mut text, file);
     if out.len() < length {
         return Listed {
-            status: base::NO_ROOM,
+            status: u8::from(Refusal::NoRoom),
             length: 0,
         };
     }

@@ -16,7 +16,7 @@ use rows::{SLOTS, Slots};
 use state::Core;
 use trace_records::EVENTS;
 
-// Where the lines of the events end, and the state that the last event left, without its slots.
+// Where the lines of the events end, and the state that the last event left, without its slots. No pair: clauses name the parts.
 #[derive(Clone, Copy)]
 struct Ended {
     at: usize,
@@ -39,8 +39,7 @@ fn put_events(
         × (sound_state (whole result.core dues.new amounts.new) ≡ true) × (result.at ≤ at + event_lines_most) }
 {
     let mut here = at;
-    let mut i = 0;
-    while i < EVENTS {
+    for i in 0..EVENTS {
         let mut told = [0u64; NUMBERS];
         let step = replay_steps::step_at(s, dues, amounts, &mut told, file, offset);
         s = step.answer.core;
@@ -56,7 +55,6 @@ fn put_events(
             step.answer.next,
         );
         offset = step.offset;
-        i += 1;
     }
     Ended { at: here, core: s }
 }
@@ -69,13 +67,11 @@ fn put_threads(out: &mut [u8], at: usize, c: Core) -> usize
 {
     let n = c.header.n as usize;
     let mut here = at;
-    let mut i = 0;
-    while i < n {
+    for i in 0..n {
         let t = c.threads[i];
         here = lines::put_thread(out, here, i as u64, t.server.capacity, c.counts[i], t.total);
-        i += 1;
     }
-    lines::put_labelled(out, here, b"idle ", c.idle)
+    text_fields::put_labelled(out, here, b"idle ", c.idle)
 }
 
 // The whole listing from the buffer's start on.
@@ -88,19 +84,17 @@ pub(super) fn put_listing(out: &mut [u8], file: &[u8]) -> usize
     let mut amounts = [0u64; SLOTS];
     let begun = replay_begin::begin(file, &mut dues, &mut amounts);
     if begun.status != 0 {
-        return lines::put_labelled(out, 0, b"refused ", begun.status as u64);
+        return text_fields::put_labelled(out, 0, b"refused ", u64::from(begun.status));
     }
-    let opened = begun.answer.core;
     let here = lines::put_header(out, 0);
     let ended = put_events(
         out,
         here,
-        opened,
+        begun.answer.core,
         &mut dues,
         &mut amounts,
         file,
         begun.offset,
     );
-    let last = ended.core;
-    put_threads(out, ended.at, last)
+    put_threads(out, ended.at, ended.core)
 }

@@ -6,6 +6,7 @@ ghost use Rattle.listing_check.specs.Verdict.{checked_of};
 
 // What is said of a listing: it is ours; the number, from 1, of the first line that differs, is missing or is surplus; or the number by
 // which the trace itself is refused.
+// A number and no enum of refusals: `RefusedFirst` speaks of it.
 #[derive(Clone, Copy)]
 pub enum Verdict {
     Same,
@@ -13,7 +14,7 @@ pub enum Verdict {
     Refused(u8),
 }
 
-// A verdict in numbers: 0 yes, 1 a line, 2 a refusal; then the refusal's number and the line's. What doesn't apply is 0.
+// A verdict in numbers, as C gets it: 0 yes, 1 a line, 2 a refusal; then the refusal's number and the line's. What doesn't apply is 0.
 #[repr(C)]
 #[derive(Clone, Copy)]
 pub struct Checked {
@@ -22,7 +23,7 @@ pub struct Checked {
     pub line: usize,
 }
 
-// A verdict in numbers.
+// A verdict in numbers. No `From`: the pages name this function.
 pub fn checked_of(v: Verdict) -> Checked
     ensures { result ≡ checked_of v }
 {

@@ -15,8 +15,7 @@ fn compared(file: &[u8], theirs: &[u8]) -> usize
 {
     let mut ours = [0u8; LARGEST];
     let listed = listing::listing(file, &mut ours);
-    let length = listed.length;
-    text_lines::first_difference(&ours[..length], theirs)
+    text_lines::first_difference(&ours[..listed.length], theirs)
 }
 
 // The verdict on any bytes as the listing of any bytes as a trace. A refused trace has no listing to compare: its `refused n` line is
@@ -28,9 +27,8 @@ pub fn verdict_of(file: &[u8], theirs: &[u8]) -> Verdict
     if status != 0 {
         return Verdict::Refused(status);
     }
-    let line = compared(file, theirs);
-    if line != 0 {
-        return Verdict::Differs(line);
+    match compared(file, theirs) {
+        0 => Verdict::Same,
+        line => Verdict::Differs(line),
     }
-    Verdict::Same
 }

@@ -1,4 +1,5 @@
 // The order of moments, of which 0 is none: the earlier of two, and whether one falls by a time.
+// A number and no Option: 0 is 01's, and C is handed it.
 #![tactic(auto)]
 
 ghost use Rattle.std.specs.Prelude.{◌≡◌};

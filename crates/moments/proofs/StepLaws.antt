@@ -35,7 +35,7 @@ use Rattle.state.proofs.SoundLaws.ThreadSound.{absent, fifo, rr, sporadic}
 use Rattle.ticks.specs.Running.{level, head, idles, ran, charge, limit_of, limit, next}
 use Rattle.ticks.proofs.RunLaws.{limit-rr, limit-upper, limit-lower}
 use Rattle.records.proofs.PolicyLaws.{by_zero, by_one, by_two, by-more}
-use Rattle.moments.specs.Changes.{sent_to, with_effect}
+use Rattle.moments.specs.Changes.{with_effect}
 use Rattle.moments.specs.Moments.{quantum_ended, limits}
 use Rattle.rows.specs.Rows.{slots_at}
 use Rattle.moments.proofs.ChargeLaws.{Runs, runs, upper-at, ran-upper}
@@ -79,11 +79,6 @@ return-not-low now b p count amount v =
 pub return-not-then : (now : ℕ) (b : Bool) (p : Parameters) (count amount : ℕ) (v : Server) → (return_effect now b p count amount v).place ≡ LowThenUpper → ⊥
 return-not-then now b p count amount v =
     return-elim now p v b count amount (λ (e : Effect). e.place ≡ LowThenUpper → ⊥) (λ z f. stays_then f) (λ c u f. stays_then f) (λ c w u f. upper-then f)
-
--- an arm of a match does what the definition says of its place
-pub sent-arm : (i : ℕ) (p : Parameters) (l m : List ℕ) (w : ℕ) (x y : Place) → x ≡ y → m ≡ sent_to y i p l → w ≡ occupancy (sent_to y i p l)
-    → (m ≡ sent_to x i p l) × (w ≡ occupancy (sent_to x i p l))
-sent-arm i p l m w x y e f g = (f ∙ sym (ap (λ (z : Place). sent_to z i p l) e), g ∙ sym (ap (λ (z : Place). occupancy (sent_to z i p l)) e))
 
 -- what `send_up` and `send_down` require
 pub record Sendable (word i : ℕ) (p : Parameters) (l : List ℕ) (x : Place) : Type 0 where

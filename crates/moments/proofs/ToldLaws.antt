@@ -1,7 +1,7 @@
 -- The 128 numbers, as a loop over the moments adds them up: what is told so far and what the rest will tell is what the whole tells.
 use Prim.Native.Nat.{ℕ, ◌+◌, ◌-◌, ◌≤◌, ◌<◌}
 use mathlib.Core.Bool.{false}
-use mathlib.Core.Path.{◌≡◌, sym, ap, ◌∙◌, subst, subst⁻¹}
+use mathlib.Core.Path.{◌≡◌, sym, ap, ◌∙◌, subst⁻¹}
 use mathlib.Core.List.{List, []}
 use lib.ListN.{length, get_or, replicate}
 use native.Mathlib.Omega.{arith}

@@ -1,7 +1,7 @@
 // The passing of time over the executive's state.
 #![tactic(auto)]
 
-ghost use Rattle.std.specs.Prelude.{◌≡◌, true, false, ◌+◌, ◌*◌, ◌<◌, ◌≤◌, ◌^◌, eqb, length, replicate};
+ghost use Rattle.std.specs.Prelude.{◌≡◌, true, false, ◌+◌, ◌*◌, ◌<◌, ◌≤◌, ◌^◌, eqb, replicate};
 ghost use Rattle.records.specs.Ranges.{most_threads, last_time, longest_step};
 ghost use Rattle.account.specs.Rules.{Room, slot_for, slots_after, without_first};
 ghost use Rattle.sporadic.specs.Rules.{due_of, limit_effect, return_effect};
@@ -10,7 +10,7 @@ ghost use Rattle.reports.specs.Tallies.{per_thread, numbers, Tellable, more_of, 
 ghost use Rattle.ready.specs.Lists.{moved};
 ghost use Rattle.ready.specs.Word.{occupancy};
 ghost use Rattle.ready.specs.Rules.{Movable};
-ghost use Rattle.rows.specs.Rows.{all_slots, slots_at, with_slots};
+ghost use Rattle.rows.specs.Rows.{slots_at, with_slots};
 ghost use Rattle.state.specs.Sound.{sound_state};
 ghost use Rattle.state.specs.Updates.{whole};
 ghost use Rattle.thread.specs.Thread.{is_blocked, with_left, with_server};
@@ -20,8 +20,8 @@ ghost use Rattle.moments.specs.Moments.{passed};
 ghost use Rattle.moments.specs.Reports.{reported};
 
 use account::ENTRIES;
-use base::wide;
 use ready::LIST_BYTES;
+use records::SCHED_RR;
 use reports::NUMBERS;
 use rows::Slots;
 use sporadic::{Effect, Place};
@@ -45,8 +45,7 @@ fn limit_first(limit: u64, due: u64) -> bool
 fn with_full_quantum(t: Thread) -> Thread
     ensures { result ≡ with_left t.parameters.budget t }
 {
-    let p = t.parameters;
-    thread_updates::with_left(t, p.budget)
+    thread_updates::with_left(t, t.parameters.budget)
 }
 
 // A thread whose first entry came back stays where it is or goes to its upper list; the answer is the word of the lists as they then are.
@@ -58,20 +57,9 @@ fn send_up(word: u32, lists: &mut [u8; LIST_BYTES], i: usize, t: Thread, e: Effe
         × (result ≡ occupancy (sent_to e.place i t.parameters lists.old)) }
 {
     let p = t.parameters;
-    let x = e.place;
-    match x {
-        Place::Upper => {
-            return ready_tail::move_to_tail(lists, word, i as u8, p.low, p.priority);
-        }
-        Place::Stays => {
-            return word;
-        }
-        Place::Low => {
-            return word;
-        }
-        Place::LowThenUpper => {
-            return word;
-        }
+    match e.place {
+        Place::Upper => ready_tail::move_to_tail(lists, word, i as u8, p.low, p.priority),
+        Place::Stays | Place::Low | Place::LowThenUpper => word,
     }
 }
 
@@ -86,21 +74,13 @@ fn send_down(word: u32, lists: &mut [u8; LIST_BYTES], i: u8, t: Thread, e: Effec
         × (result ≡ occupancy (sent_to e.place i t.parameters lists.old)) }
 {
     let p = t.parameters;
-    let x = e.place;
-    match x {
-        Place::Low => {
-            return ready_tail::move_to_tail(lists, word, i, p.priority, p.low);
-        }
+    match e.place {
+        Place::Low => ready_tail::move_to_tail(lists, word, i, p.priority, p.low),
         Place::LowThenUpper => {
             let w = ready_tail::move_to_tail(lists, word, i, p.priority, p.low);
-            return ready_tail::move_to_tail(lists, w, i, p.low, p.priority);
+            ready_tail::move_to_tail(lists, w, i, p.low, p.priority)
         }
-        Place::Stays => {
-            return word;
-        }
-        Place::Upper => {
-            return word;
-        }
+        Place::Stays | Place::Upper => word,
     }
 }
 
@@ -108,17 +88,14 @@ fn send_down(word: u32, lists: &mut [u8; LIST_BYTES], i: u8, t: Thread, e: Effec
 fn served(t: Thread, e: Effect) -> Thread
     ensures { result ≡ with_server e.server t }
 {
-    let v = e.server;
-    thread_updates::with_server(t, v)
+    thread_updates::with_server(t, e.server)
 }
 
 // What happens to a thread's account where the first of its `count` entries, of this amount, comes back.
 fn returned(time: u64, t: Thread, count: u8, amount: u64) -> Effect
     ensures { result ≡ return_effect time (is_blocked t) t.parameters count amount t.server }
 {
-    let p = t.parameters;
-    let v = t.server;
-    effects::return_effect(p, v, count, amount, 0 < t.blocked, time)
+    effects::return_effect(t.parameters, t.server, count, amount, 0 < t.blocked, time)
 }
 
 // What happens to the account of the running thread at its limit.
@@ -126,14 +103,12 @@ fn reached(time: u64, t: Thread) -> Effect
     requires { due_of t.parameters t.server < 2 ^ 64 }
     ensures { result ≡ limit_effect time false t.parameters t.server }
 {
-    let p = t.parameters;
-    let v = t.server;
-    effects::limit_effect(p, v, false, time)
+    effects::limit_effect(t.parameters, t.server, false, time)
 }
 
 // Thread i's first entry goes, and what came back is told.
 fn take_first(dues: &mut Slots, amounts: &mut Slots, told: &mut [u64; NUMBERS], i: usize, back: u64)
-    requires { (i < most_threads) × (length dues.old ≡ all_slots) × (length amounts.old ≡ all_slots) × Tellable (back + 1) told.old }
+    requires { (i < most_threads) × Tellable (back + 1) told.old }
     ensures { (dues.new ≡ with_slots i (without_first (slots_at i dues.old)) dues.old)
         × (amounts.new ≡ with_slots i (without_first (slots_at i amounts.old)) amounts.old)
         × (told.new ≡ more_of i (back_tally back) told.old) }
@@ -155,7 +130,7 @@ fn put_entry(
     amount: u64,
     back: u64,
 )
-    requires { (i < most_threads) × (length dues.old ≡ all_slots) × (length amounts.old ≡ all_slots) × Room false amount count × Tellable (back + 2) told.old }
+    requires { (i < most_threads) × Room false amount count × Tellable (back + 2) told.old }
     ensures { (dues.new ≡ with_slots i (slots_after false amount (slot_for due count (slots_at i dues.old)) count due (slots_at i dues.old)) dues.old)
         × (amounts.new ≡ with_slots i (slots_after false amount (slot_for due count (slots_at i dues.old)) count amount (slots_at i amounts.old)) amounts.old)
         × (told.new ≡ more_of i (plus (tally 1 0 0 0) (back_tally back)) told.old) }
@@ -164,8 +139,7 @@ fn put_entry(
     if amount == 0 {
         return;
     }
-    let n = wide(count);
-    row_entries::insert_entry(dues, amounts, i, n, due, amount);
+    row_entries::insert_entry(dues, amounts, i, usize::from(count), due, amount);
 }
 
 // The state at the time t, with what is told of the way to it. Each turn does one thing: what is due now comes back, an entry at a time and by thread
@@ -205,7 +179,7 @@ pub fn advance(
         }
         let p = ready::highest(s.word);
         let h = running::head_at(&s.lists, p);
-        let i = wide(h);
+        let i = usize::from(h);
         let before = s.threads[i];
         let limit = next_moment::limit_at(s.now, p, before);
         let m = moment_order::earlier_of(limit, x.due);
@@ -225,7 +199,7 @@ pub fn advance(
             s.threads[i] = after;
             continue;
         }
-        if after.parameters.policy == 1 {
+        if after.parameters.policy == SCHED_RR {
             let full = with_full_quantum(after);
             s.threads[i] = full;
             ready_removal::rotate(&mut s.lists, p);

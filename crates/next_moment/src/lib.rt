@@ -6,7 +6,7 @@ ghost use Rattle.records.specs.Ranges.{most_threads};
 ghost use Rattle.due_search.specs.Search.{next_due};
 ghost use Rattle.ticks.specs.Running.{earlier, limit_of};
 
-use records::THREADS;
+use records::{SCHED_FIFO, SCHED_RR, THREADS};
 use rows::SLOTS;
 use thread::Thread;
 
@@ -15,17 +15,12 @@ fn limit_of(time: u64, p: u8, t: Thread) -> u64
     requires { (time + t.left < 2 ^ 64) × (time + t.server.capacity < 2 ^ 64) }
     ensures { result ≡ limit_of time p t }
 {
-    let q = t.parameters;
-    if q.policy == 0 {
-        return 0;
+    match t.parameters.policy {
+        SCHED_FIFO => 0,
+        SCHED_RR => time + t.left,
+        _ if p == t.parameters.priority => time + t.server.capacity,
+        _ => 0,
     }
-    if q.policy == 1 {
-        return time + t.left;
-    }
-    if p == q.priority {
-        return time + t.server.capacity;
-    }
-    0
 }
 
 // The same, where p is 0 if nothing runs.
@@ -39,7 +34,7 @@ pub fn limit_at(time: u64, p: u8, t: Thread) -> u64
     limit_of(time, p, t)
 }
 
-// The next moment, 0 for none: thread t runs in list p, or nothing runs and p is 0.
+// The next moment, 0 for none: thread t runs in list p, or nothing runs and p is 0. A number and no Option: it is 01's, and C is handed it.
 pub fn next_moment<'a>(
     time: u64,
     p: u8,

@@ -1,9 +1,9 @@
 -- What the functions of the opening compute is what the definitions say, and each thread of an accepted table can enter.
-use Prim.Native.Nat.{ℕ, suc, ◌+◌, ◌≤◌, ◌<◌}
+use Prim.Native.Nat.{ℕ, ◌+◌, ◌≤◌, ◌<◌}
 use mathlib.Core.Bool.{Bool, true, false, cond, ◌&&◌}
-use mathlib.Core.Path.{◌≡◌, refl, sym, ap, ◌∙◌, subst⁻¹, ap₂}
+use mathlib.Core.Path.{◌≡◌, sym, ap, ◌∙◌, subst⁻¹, ap₂}
 use mathlib.Core.List.{List}
-use lib.ListN.{length, get_or, replicate}
+use lib.ListN.{get_or, replicate}
 use lib.Dec.{leb, eqb}
 use native.Mathlib.Omega.{arith}
 use native.Mathlib.Numerals.{add-one}
@@ -12,24 +12,19 @@ use Rattle.records.specs.declared.Parameters.{Parameters}
 use Rattle.records.specs.declared.Header.{Header}
 use Rattle.base.specs.Tests.{below}
 use Rattle.records.specs.Ranges.{in_range, no_parameters}
-use Rattle.base.proofs.TestLaws.{tests, all_true, all_one, below_at, cond-true, cond-false}
-use Rattle.account.specs.declared.Account.{Account}
-use Rattle.ready.specs.Lists.{appended}
+use Rattle.base.proofs.TestLaws.{all_true, below_at, cond-true, cond-false, false-true, never_true}
 use Rattle.ready.specs.Word.{occupancy}
 use Rattle.ready.specs.Rules.{Joinable}
 use Rattle.ready.proofs.SoundLaws.{joinable}
 use Rattle.base.specs.Refusals.{first_refusal}
 use Rattle.base.proofs.RefusalLaws.{passed}
-use Rattle.thread.specs.declared.Thread.{Thread}
 use Rattle.state.specs.declared.State.{State}
-use Rattle.state.specs.State.{thread_at, place}
-use Rattle.thread.specs.Thread.{no_thread, renewed, with_blocked}
-use Rattle.account.specs.Account.{new_account}
-use Rattle.state.specs.Updates.{with_lists, with_account, state_of}
-use Rattle.events.specs.Opening.{empty_state, no_state, without_flag, entered, entered_below, open_status, opening}
+use Rattle.state.specs.State.{place}
+use Rattle.thread.specs.Thread.{no_thread}
+use Rattle.state.specs.Updates.{state_of}
+use Rattle.events.specs.Opening.{empty_state, no_state, entered, entered_below, open_status, opening}
 use Rattle.events.proofs.EventLaws.{and_both}
 use Rattle.events.proofs.OpeningLaws.{Entered, unplaced, below-entered, opened-sound}
-use Rattle.state.proofs.UpdateLaws.{lists-are}
 use Rattle.passing.specs.Sequence as sequence
 use Rattle.state.specs.Sound.{sound_state}
 use Rattle.state.proofs.SoundLaws.{state-in}
@@ -44,19 +39,9 @@ empty-is header l e =
 
 -- ---- the tests
 
--- a test of every number below i, from the test of the last of them
-module _ (f : ℕ → Bool) (i j : ℕ) (e : i ≡ suc j) where
-  pub below_less : f j ≡ true → below i f ≡ below j f
-  unfolding below
-  below_less t = ap (λ (x : ℕ). below x f) e ∙ ap (λ (b : Bool). cond (below j f) b false) t ∙ all_one (below j f)
-
-  pub below-stops : f j ≡ false → below i f ≡ false
-  unfolding below
-  below-stops t = ap (λ (x : ℕ). below x f) e ∙ ap (λ (b : Bool). cond (below j f) b false) t ∙ never (below j f)
-    where
-      never : (b : Bool) → cond b false false ≡ false
-      never true = refl
-      never false = refl
+-- a test of every number below n that fails at one of them
+pub below-fails : (n : ℕ) (f : ℕ → Bool) (i : ℕ) → i < n → f i ≡ false → below n f ≡ false
+below-fails n f i h e = never_true (below n f) (λ t. false-true (sym e ∙ below_at n f t i h))
 
 -- thread i of the table may be opened
 abbrev pub opens : List Parameters → ℕ → Bool
@@ -80,36 +65,6 @@ module _ (header : Header) (table : List Parameters) where
     unfolding open_status first_refusal
     status-table c true d = simp (le-leb 1 header.n a, le-leb header.n 32 b, le-ltb 1000000000000000 header.start c, d)
     status-table c false d = simp (le-leb 1 header.n a, le-leb header.n 32 b, le-ltb 1000000000000000 header.start c, d)
-
--- ---- a thread enters
-
-module _ (s : State) (k i : ℕ) (ei : i ≡ k) (p q : Parameters) (eq : q ≡ without_flag p) (t : Thread) (et : t ≡ with_blocked (cond (eqb p.flag 0) 1 0) (thread_at s i))
-    (u : Thread) (eu : u ≡ renewed q t) (b : Account) (eb : b ≡ new_account s.now q) (r : State) (er : r ≡ with_account i u b s) where
-  new : ℕ → State
-  new j = with_account j (renewed (without_flag p) (with_blocked (cond (eqb p.flag 0) 1 0) (thread_at s j))) (new_account s.now (without_flag p)) s
-
-  put : r ≡ new k
-  unfolding new
-  put =
-      er
-      ∙ ap (λ (x : Thread). with_account i x b s) (eu ∙ ap (renewed q) et)
-      ∙ ap (λ (x : Account). with_account i (renewed q (with_blocked (cond (eqb p.flag 0) 1 0) (thread_at s i))) x s) eb
-      ∙ ap (λ (x : Parameters). with_account i (renewed x (with_blocked (cond (eqb p.flag 0) 1 0) (thread_at s i))) (new_account s.now x) s) eq
-      ∙ ap new ei
-
-  abbrev after : Bool → List ℕ
-  after x = cond x s.lists (appended p.priority k s.lists)
-
-  -- blocked: the lists, and so their word, stay
-  pub enters-blocked : p.flag ≡ 0 → s.word ≡ occupancy s.lists → r ≡ entered k p s
-  unfolding new
-  enters-blocked z w = put ∙ lists-are (new k) s.lists s.lists s.word refl w ∙ ap (λ (x : Bool). with_lists (after x) (new k)) (sym (eq-eqb p.flag 0 z))
-
-  pub enters-list : (p.flag ≡ 0 → ⊥) → with_lists (appended p.priority k r.lists) r ≡ entered k p s
-  unfolding new
-  enters-list z =
-      ap (λ (x : State). with_lists (appended p.priority k x.lists) x) put
-      ∙ ap (λ (x : Bool). with_lists (after x) (new k)) (sym (ne_eqb p.flag 0 z))
 
 -- ---- a table that is accepted
 
@@ -141,7 +96,7 @@ module _ (header : Header) (table : List Parameters) (z : open_status header tab
 
   -- once k threads have entered, the next one can
   pub next-enters : (k : ℕ) → k < header.n → (s : State) → s ≡ entered_below k table (empty_state header)
-      → (k < 32) × (length s.dues ≡ 256) × (length s.amounts ≡ 256) × (s.word ≡ occupancy s.lists)
+      → (k < 32) × (s.word ≡ occupancy s.lists)
       × (eqb (get_or table k no_parameters).flag 0 ≡ false → Joinable s.word (get_or table k no_parameters).priority s.lists)
   next-enters k l s e = go (subst⁻¹ (Entered k) e (below-entered header accepted.1 table k (omega (arith, few)) (λ i m. in-range i (omega arith))))
     where
@@ -152,13 +107,11 @@ module _ (header : Header) (table : List Parameters) (z : open_status header tab
       range = priority-range p (in-range k l)
 
       go : Entered k s
-          → (k < 32) × (length s.dues ≡ 256) × (length s.amounts ≡ 256) × (s.word ≡ occupancy s.lists)
+          → (k < 32) × (s.word ≡ occupancy s.lists)
           × (eqb p.flag 0 ≡ false → Joinable s.word p.priority s.lists)
       go h =
           let m : k < 32 = omega (arith, few) in (
             m,
-            omega (tests, h.sizes),
-            omega (tests, h.sizes),
             h.lists.agrees,
             λ f. joinable (place s) s.word s.lists h.lists p.priority range.0 range.1 k m
                 (λ y. omega (arith, unplaced k s h m p (in-range k l), range.0)),

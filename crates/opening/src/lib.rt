@@ -1,7 +1,8 @@
 // Opening: whether a table may be opened, the state that its threads give, and the answer.
 #![tactic(auto)]
 
-ghost use Rattle.std.specs.Prelude.{◌≡◌, true, false, cond, ◌&&◌, ◌<◌, ◌≤◌, leb, eqb, length, get_or, replicate};
+ghost use Rattle.std.specs.Prelude.{◌≡◌, true, false, cond, ◌&&◌, ◌<◌, ◌≤◌, leb, eqb, get_or, replicate};
+ghost use Rattle.base.specs.Status.{as_status};
 ghost use Rattle.base.specs.Tests.{below};
 ghost use Rattle.records.specs.Ranges.{most_threads, most_replenishments, in_range, no_parameters};
 ghost use Rattle.rows.specs.Rows.{all_slots};
@@ -14,6 +15,7 @@ ghost use Rattle.answers.specs.Answer.{answer_of, answered};
 
 use account::ENTRIES;
 use answers::Answer;
+use base::Refusal;
 use records::{Header, LAST_TIME, Parameters, THREADS};
 use rows::Slots;
 use sporadic::Server;
@@ -44,7 +46,7 @@ fn empty_core(header: Header) -> Core
         },
     };
     Core {
-        header: header,
+        header,
         now: header.start,
         idle: 0,
         word: 0,
@@ -58,25 +60,14 @@ fn empty_core(header: Header) -> Core
 fn without_flag(p: Parameters) -> Parameters
     ensures { result ≡ without_flag p }
 {
-    Parameters {
-        policy: p.policy,
-        priority: p.priority,
-        low: p.low,
-        max_repl: p.max_repl,
-        flag: 0,
-        budget: p.budget,
-        period: p.period,
-    }
+    Parameters { flag: 0, ..p }
 }
 
 // Whether a thread may be opened with these parameters.
 fn may_open(p: Parameters) -> bool
     ensures { result ≡ (in_range most_replenishments p && leb p.flag 1) }
 {
-    if records::in_range(p, ENTRIES as u8) {
-        return p.flag <= 1;
-    }
-    false
+    records::in_range(p, ENTRIES as u8) && p.flag <= 1
 }
 
 // Whether the first n threads of the table may be opened.
@@ -84,70 +75,57 @@ fn table_holds(n: usize, table: [Parameters; THREADS]) -> bool
     requires { n ≤ most_threads }
     ensures { result ≡ below n (λ i. in_range most_replenishments (get_or table i no_parameters) && leb (get_or table i no_parameters).flag 1) }
 {
-    let mut i = n;
-    while 0 < i {
-        i = i - 1;
-        let p = table[i];
-        if !may_open(p) {
+    for p in &table[..n] {
+        if !may_open(*p) {
             return false;
         }
     }
     true
 }
 
-// 5, 3 or 6 where the opening is refused, else 0.
-fn open_status(header: Header, table: [Parameters; THREADS]) -> u8
-    ensures { result ≡ open_status header table }
+// Whether an opening is accepted; it is refused with 5, 3 or 6.
+fn open_status(header: Header, table: [Parameters; THREADS]) -> Result<(), Refusal>
+    ensures { as_status result ≡ open_status header table }
 {
-    if header.n < 1 {
-        return base::WRONG_THREAD;
-    }
-    if (THREADS as u32) < header.n {
-        return base::WRONG_THREAD;
+    if header.n < 1 || (THREADS as u32) < header.n {
+        return Err(Refusal::WrongThread);
     }
     if LAST_TIME < header.start {
-        return base::PAST_LAST_TIME;
+        return Err(Refusal::PastLastTime);
     }
-    if table_holds(header.n as usize, table) {
-        return 0;
+    if !table_holds(header.n as usize, table) {
+        return Err(Refusal::WrongParameters);
     }
-    base::WRONG_PARAMETERS
+    Ok(())
 }
 
 // A thread opened without the start flag is blocked.
 fn starts_blocked(flag: u32) -> u8
     ensures { result ≡ cond (eqb flag 0) 1 0 }
 {
-    if flag == 0 {
-        return 1;
-    }
-    0
+    u8::from(flag == 0)
 }
 
 // Thread k enters with its parameters; with the start flag it becomes the tail of its list.
 fn enter(c: Core, dues: &mut Slots, amounts: &mut Slots, k: u8, p: Parameters) -> Core
-    requires { (k < most_threads) × (length dues.old ≡ all_slots) × (length amounts.old ≡ all_slots) × (c.word ≡ occupancy c.lists)
+    requires { (k < most_threads) × (c.word ≡ occupancy c.lists)
         × (eqb p.flag 0 ≡ false → Joinable c.word p.priority c.lists) }
     ensures { whole result dues.new amounts.new ≡ entered k p (whole c dues.old amounts.old) }
 {
-    let i = base::wide(k);
+    let i = usize::from(k);
     let q = without_flag(p);
-    let none = c.threads[i];
-    let t = thread_updates::with_blocked(none, starts_blocked(p.flag));
+    let t = thread_updates::with_blocked(c.threads[i], starts_blocked(p.flag));
     let u = thread::renew(q, t);
     let b = account_making::new_account(q, c.now);
-    let v = b.server;
-    let pending = b.pending;
     let mut r = c;
-    let served = thread_updates::with_server(u, v);
+    let served = thread_updates::with_server(u, b.server);
     r.threads[i] = served;
-    r.counts[i] = pending.count;
-    pending_rows::write_pending(dues, amounts, i, pending);
+    r.counts[i] = b.pending.count;
+    pending_rows::write_pending(dues, amounts, i, b.pending);
     if p.flag == 0 {
         return r;
     }
-    let word = r.word;
-    r.word = ready_tail::append(&mut r.lists, word, p.priority, k);
+    r.word = ready_tail::append(&mut r.lists, r.word, p.priority, k);
     r
 }
 
@@ -162,11 +140,8 @@ fn opened(
     ensures { whole result dues.new amounts.new ≡ entered_below header.n table (empty_state header) }
 {
     let mut s = empty_core(header);
-    let mut k: u32 = 0;
-    while k < header.n {
-        let p = table[k as usize];
-        s = enter(s, dues, amounts, k as u8, p);
-        k = k + 1;
+    for k in 0..header.n as u8 {
+        s = enter(s, dues, amounts, k, table[usize::from(k)]);
     }
     s
 }
@@ -178,8 +153,7 @@ fn opened_answer<'a>(c: Core, dues: &'a Slots, amounts: &'a Slots) -> Answer
 {
     let level = ready::highest(c.word);
     let h = running::head_at(&c.lists, level);
-    let i = base::wide(h);
-    let t = c.threads[i];
+    let t = c.threads[usize::from(h)];
     let n = c.header.n as usize;
     let runs = running::running(c.word, &c.lists);
     let next = next_moment::next_moment(c.now, level, t, &c.counts, dues, n);
@@ -197,10 +171,9 @@ pub fn open(
 {
     rows::clear(dues);
     rows::clear(amounts);
-    let status = open_status(header, table);
-    if status != 0 {
+    if let Err(refusal) = open_status(header, table) {
         let none = empty_core(Header { n: 0, start: 0 });
-        return answers::nothing_runs(status, none);
+        return answers::nothing_runs(u8::from(refusal), none);
     }
     let c = opened(header, table, dues, amounts);
     opened_answer(c, dues, amounts)

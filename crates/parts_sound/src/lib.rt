@@ -1,9 +1,7 @@
 // The test that a state of these parts is sound, for any contents: thread by thread, then the lists, the word and the run times.
 #![tactic(auto)]
 
-ghost use Rattle.std.specs.Prelude.{◌≡◌, length};
-ghost use Rattle.records.specs.Ranges.{most_threads};
-ghost use Rattle.rows.specs.Rows.{all_slots};
+ghost use Rattle.std.specs.Prelude.{◌≡◌};
 ghost use Rattle.state.specs.Sound.{sound_state};
 ghost use Rattle.state.specs.Updates.{state_of};
 
@@ -28,7 +26,6 @@ pub fn sound_parts<'a>(
     amounts: &'a Slots,
     lists: &'a [u8; LIST_BYTES],
 ) -> bool
-    requires { (length counts.now ≡ most_threads) × (length dues.now ≡ all_slots) × (length amounts.now ≡ all_slots) }
     ensures { result ≡ sound_state (state_of header time idle word threads counts.now dues.now amounts.now lists.now) }
 {
     if header.n < 1 {
@@ -44,22 +41,18 @@ pub fn sound_parts<'a>(
         return false;
     }
     let n = header.n as usize;
-    // two loops: to hand the threads to another function would copy them
-    let mut k = n;
-    while k < THREADS {
-        let t = threads[k];
-        if !thread_absent::no_thread(t, counts[k]) {
+    // two loops: a function that took the threads by value would copy them
+    for k in n..THREADS {
+        if !thread_absent::no_thread(threads[k], counts[k]) {
             return false;
         }
-        k = k + 1;
     }
     if !thread_absent::no_slots(n, dues, amounts) {
         return false;
     }
     let mut left = time - header.start;
     let mut places = [0u8; THREADS];
-    let mut i: usize = 0;
-    while i < n {
+    for i in 0..n {
         let t = threads[i];
         if !thread_sound::thread_holds(header.start, time, t, counts, dues, amounts, i) {
             return false;
@@ -68,8 +61,7 @@ pub fn sound_parts<'a>(
             return false;
         }
         places[i] = thread_place::assigned_place(t, counts[i]);
-        left = left - t.total;
-        i = i + 1;
+        left -= t.total;
     }
     if !ready_sound::sound(lists, word, places) {
         return false;

@@ -1,9 +1,9 @@
 // A thread's pending replenishments as one value: read from its rows, and written to them.
 #![tactic(auto)]
 
-ghost use Rattle.std.specs.Prelude.{◌≡◌, ◌<◌, length};
+ghost use Rattle.std.specs.Prelude.{◌≡◌, ◌<◌};
 ghost use Rattle.records.specs.Ranges.{most_threads};
-ghost use Rattle.rows.specs.Rows.{all_slots, with_slots, pending_of};
+ghost use Rattle.rows.specs.Rows.{with_slots, pending_of};
 
 use account::Pending;
 use records::THREADS;
@@ -16,7 +16,7 @@ pub fn pending_at<'a>(
     amounts: &'a Slots,
     i: usize,
 ) -> Pending
-    requires { (i < most_threads) × (length dues.now ≡ all_slots) × (length amounts.now ≡ all_slots) }
+    requires { i < most_threads }
     ensures { result ≡ pending_of counts.now dues.now amounts.now i }
 {
     Pending {
@@ -28,11 +28,9 @@ pub fn pending_at<'a>(
 
 // Other pending replenishments in thread i's slots.
 pub fn write_pending(dues: &mut Slots, amounts: &mut Slots, i: usize, q: Pending)
-    requires { (i < most_threads) × (length dues.old ≡ all_slots) × (length amounts.old ≡ all_slots) }
+    requires { i < most_threads }
     ensures { (dues.new ≡ with_slots i q.dues dues.old) × (amounts.new ≡ with_slots i q.amounts amounts.old) }
 {
-    let row = q.dues;
-    rows::write_row(dues, i, row);
-    let others = q.amounts;
-    rows::write_row(amounts, i, others);
+    rows::write_row(dues, i, q.dues);
+    rows::write_row(amounts, i, q.amounts);
 }

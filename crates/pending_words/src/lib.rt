@@ -12,10 +12,8 @@ pub fn pending_word(counts: &[u8; THREADS]) -> u32
     ensures { PendingWord counts.now result }
 {
     let mut word: u32 = 0;
-    let mut k: usize = 0;
-    while k < THREADS {
-        word = word + pending_bit(counts[k], k);
-        k = k + 1;
+    for k in 0..THREADS {
+        word += pending_bit(counts[k], k);
     }
     word
 }

@@ -1,7 +1,7 @@
 -- Both times are converted exactly, and their quotient is the f64 nearest to the true one; it is 0 where the first is.
 use Prim.Native.Nat.{ℕ, ◌*◌, ◌^◌, ◌≤◌, ◌<◌}
 use mathlib.Core.Bool.{Bool, true, false, cond, true≢false}
-use mathlib.Core.Path.{◌≡◌, refl, sym, ap, ◌∙◌, subst}
+use mathlib.Core.Path.{◌≡◌, sym, ap, ◌∙◌, subst}
 use native.Mathlib.Omega.{arith}
 use native.Mathlib.Nat.{le_trans, mul_assoc, mul_comm, mul_left_comm, mul-one, mul-pos, lt_irrefl}
 use lib.Dec.{eqb, le→leb}

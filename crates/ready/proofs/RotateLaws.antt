@@ -7,7 +7,7 @@ use native.Mathlib.Decide.{ℕ_discrete}
 use lib.ListN.{length, set, take, drop, get_or, replicate, length-append, length-drop, length-set}
 use lib.Seq.{set_at, append_snoc, length-take-le, take_at, drop_at}
 use borrow.Author.Tests.{eq-eqb}
-use Rattle.ready.specs.Lists.{start, size, members, row_of, threads, head_of, with_threads, insert_at, without, removed, moved}
+use Rattle.ready.specs.Lists.{start, size, members, row_of, threads, head_of, with_threads, without, removed, moved}
 use Rattle.ready.specs.Word.{size_at, occupancy}
 use Rattle.ready.specs.Rules.{Movable, Rotatable}
 use Rattle.ready.specs.Private.{closed}

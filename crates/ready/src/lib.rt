@@ -10,7 +10,6 @@ ghost use Rattle.ready.specs.Lists.{list_bytes, start, head_of};
 ghost use Rattle.ready.specs.Word.{highest_of};
 ghost use Rattle.ready.specs.Rules.{Held};
 
-use base::wide;
 use records::{HIGHEST_PRIORITY, THREADS};
 
 // The bytes of a list's row, which may hold all threads, and of all rows.
@@ -23,7 +22,7 @@ pub fn row_start(p: u8) -> usize
     requires { (1 ≤ p) × (p ≤ highest_priority) }
     ensures { result ≡ start p }
 {
-    (wide(p) - 1) * ROW_BYTES
+    (usize::from(p) - 1) * ROW_BYTES
 }
 
 // The bit of list p.
@@ -31,7 +30,7 @@ pub fn bit(p: u8) -> u32
     requires { (1 ≤ p) × (p ≤ highest_priority) }
     ensures { result ≡ 2 ^ (p - 1) }
 {
-    1u32 << ((p - 1) as u32)
+    1u32 << u32::from(p - 1)
 }
 
 // Lists that hold no thread; their word is 0.
@@ -41,7 +40,7 @@ pub fn empty() -> [u8; LIST_BYTES]
     [0u8; LIST_BYTES]
 }
 
-// The priority of the highest list that holds a thread, 0 where none does.
+// The priority of the highest list that holds a thread, 0 where none does: 32 less the leading zeros, as 01 has it.
 pub fn highest(word: u32) -> u8
     ensures { result ≡ highest_of word }
 {

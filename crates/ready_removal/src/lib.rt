@@ -1,44 +1,30 @@
 // A gap in a list is closed: where a thread leaves it, and where the head becomes the tail.
 #![tactic(auto)]
 
-ghost use Rattle.std.specs.Prelude.{◌≡◌, ◌+◌, ◌≤◌, ◌<◌, length, take, drop};
+ghost use Rattle.std.specs.Prelude.{◌≡◌, ◌+◌, ◌≤◌, ◌<◌};
 ghost use Rattle.ready.specs.Lists.{list_bytes, head_of, removed, moved};
 ghost use Rattle.ready.specs.Word.{occupancy};
 ghost use Rattle.ready.specs.Rules.{Leavable, Rotatable};
 ghost use Rattle.ready.specs.Private.{index_of, closed};
 
-use base::wide;
 use ready::LIST_BYTES;
 
-// How many of the n numbers from `at` on stand before the first i.
-fn index_of(lists: &[u8; LIST_BYTES], at: usize, n: usize, i: u8) -> usize
-    requires { (at + n ≤ list_bytes) × (length lists.now ≡ list_bytes) }
-    ensures { result ≡ index_of i (take n (drop at lists.now)) }
+// How many numbers stand before the first i.
+fn index_of(list: &[u8], i: u8) -> usize
+    ensures { result ≡ index_of i list.now }
 {
-    let mut j: usize = 0;
-    while j < n {
-        if lists[at + j] == i {
-            return j;
-        }
-        j = j + 1;
-    }
-    j
+    list.iter().position(|x| *x == i).unwrap_or(list.len())
 }
 
 // The n numbers from `at` on without the first: the others move up, and the last place is 0.
 fn close(lists: &mut [u8; LIST_BYTES], at: usize, n: usize)
-    requires { (0 < n) × (at + n ≤ list_bytes) × (length lists.old ≡ list_bytes) }
+    requires { (0 < n) × (at + n ≤ list_bytes) }
     ensures { lists.new ≡ closed lists.old at n }
 {
-    // a bound that the loop doesn't compute: compiled as one move of the whole run
-    let last = n - 1;
-    let mut j: usize = 0;
-    while j < last {
-        let x = lists[at + j + 1];
-        lists[at + j] = x;
-        j = j + 1;
-    }
-    lists[at + j] = 0;
+    // from place 1 to place 0 of the run alone: compiled as one move
+    let run = &mut lists[at..at + n];
+    run.copy_within(1.., 0);
+    run[n - 1] = 0;
 }
 
 // Thread i leaves list p, and the others keep their order; the answer is the word of the lists as they then are.
@@ -48,8 +34,8 @@ pub fn remove(lists: &mut [u8; LIST_BYTES], word: u32, p: u8, i: u8) -> u32
 {
     let at = ready::row_start(p);
     let n = lists[at];
-    let k = wide(n);
-    let j = index_of(lists, at + 1, k, i);
+    let k = usize::from(n);
+    let j = index_of(&lists[at + 1..at + 1 + k], i);
     close(lists, at + 1 + j, k - j);
     lists[at] = n - 1;
     if n == 1 {
@@ -64,7 +50,7 @@ pub fn rotate(lists: &mut [u8; LIST_BYTES], p: u8)
     ensures { lists.new ≡ moved (head_of p lists.old) p p lists.old }
 {
     let at = ready::row_start(p);
-    let n = wide(lists[at]);
+    let n = usize::from(lists[at]);
     // a lone thread is head and tail
     if n < 2 {
         return;

@@ -3,12 +3,10 @@
 
 ghost use Rattle.std.specs.Prelude.{◌≡◌, ◌≤◌, length, get_or};
 ghost use Rattle.base.specs.Tests.{all, zeros};
-ghost use Rattle.records.specs.Ranges.{most_threads};
-ghost use Rattle.ready.specs.Lists.{row_bytes, list_bytes};
+ghost use Rattle.ready.specs.Lists.{row_bytes};
 ghost use Rattle.ready.specs.Sound.{sound_lists};
 ghost use Rattle.ready_sound.specs.Private.{Struck, RowStruck};
 
-use base::wide;
 use ready::LIST_BYTES;
 use records::THREADS;
 
@@ -18,23 +16,19 @@ fn all_zero(s: &[u8]) -> bool
 {
     // the bits of all of them, to the end in any case: compiled as sixteen bytes at a time
     let mut bits: u8 = 0;
-    let mut j: usize = 0;
-    while j < s.len() {
-        bits = bits | s[j];
-        j = j + 1;
+    for x in s {
+        bits |= *x;
     }
     bits == 0
 }
 
 // Strikes the threads of s off `left`, where each must still have the place p.
 fn strike(s: &[u8], p: u8, left: &mut [u8; THREADS]) -> bool
-    requires { (1 ≤ p) × (length left.old ≡ most_threads) }
+    requires { 1 ≤ p }
     ensures { Struck p s.now left.old left.new result }
 {
-    let mut j: usize = 0;
-    while j < s.len() {
-        let i = wide(s[j]);
-        j = j + 1;
+    for x in s {
+        let i = usize::from(*x);
         if THREADS <= i {
             return false;
         }
@@ -49,10 +43,10 @@ fn strike(s: &[u8], p: u8, left: &mut [u8; THREADS]) -> bool
 // Whether the list at the head of `part` holds a thread, all behind its threads is 0, and they, each with the place p, could be
 // struck off `left`. The part is the row of list p, and may go on behind it.
 fn strike_row(part: &[u8], p: u8, left: &mut [u8; THREADS]) -> bool
-    requires { (1 ≤ p) × (row_bytes ≤ length part.now) × (length left.old ≡ most_threads) }
+    requires { (1 ≤ p) × (row_bytes ≤ length part.now) }
     ensures { RowStruck p part.now left.old left.new result }
 {
-    let n = wide(part[0]);
+    let n = usize::from(part[0]);
     if n < 1 {
         return false;
     }
@@ -65,10 +59,12 @@ fn strike_row(part: &[u8], p: u8, left: &mut [u8; THREADS]) -> bool
     strike(&part[1..n + 1], p, left)
 }
 
-// Whether lists and word are sound. One pass over the lists that the word names, from the highest down, strikes each thread off
-// a copy of the places; all between them is 0, lengths included, and at the end no place is left.
-fn sound_rows(lists: &[u8], word: u32, places: [u8; THREADS]) -> bool
-    requires { length lists.now ≡ list_bytes }
+// Whether lists and word are sound for the places: thread i must stand once in the list of the priority places[i], and in
+// no other; at 0 it must stand in none. Any contents are decided.
+//
+// One pass over the lists that the word names, from the highest down, strikes each thread off a copy of the places; all between them is 0,
+// lengths included, and at the end no place is left.
+pub fn sound(lists: &[u8; LIST_BYTES], word: u32, places: [u8; THREADS]) -> bool
     ensures { result ≡ sound_lists (λ i. get_or places i 0) word lists.now }
 {
     let mut left = places;
@@ -81,18 +77,10 @@ fn sound_rows(lists: &[u8], word: u32, places: [u8; THREADS]) -> bool
             return false;
         }
         end = at;
-        rest = rest - ready::bit(p);
+        rest -= ready::bit(p);
     }
     if !all_zero(&lists[..end]) {
         return false;
     }
     all_zero(&left)
-}
-
-// Whether lists and word are sound for the places: thread i must stand once in the list of the priority places[i], and in
-// no other; at 0 it must stand in none. Any contents are decided.
-pub fn sound(lists: &[u8; LIST_BYTES], word: u32, places: [u8; THREADS]) -> bool
-    ensures { result ≡ sound_lists (λ i. get_or places i 0) word lists.now }
-{
-    sound_rows(lists, word, places)
 }

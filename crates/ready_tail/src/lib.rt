@@ -6,7 +6,6 @@ ghost use Rattle.ready.specs.Lists.{appended, moved};
 ghost use Rattle.ready.specs.Word.{occupancy};
 ghost use Rattle.ready.specs.Rules.{Joinable, Movable};
 
-use base::wide;
 use ready::LIST_BYTES;
 
 // Thread i becomes the tail of list p; the answer is the word of the lists as they then are.
@@ -16,7 +15,7 @@ pub fn append(lists: &mut [u8; LIST_BYTES], word: u32, p: u8, i: u8) -> u32
 {
     let at = ready::row_start(p);
     let n = lists[at];
-    lists[at + 1 + wide(n)] = i;
+    lists[at + 1 + usize::from(n)] = i;
     lists[at] = n + 1;
     if n == 0 {
         return word + ready::bit(p);

@@ -1,10 +1,13 @@
 // Runs the stored cases over the lists and the word, and prints what each leaves. The expected output is the file stdout.
+// A case is a function of its own: its title and its numbers.
 #![tactic(auto)]
+
+ghost use Rattle.std.specs.Prelude.{◌≡◌, get_or};
+ghost use Rattle.ready.specs.Sound.{sound_lists};
 
 use ready::{LIST_BYTES, ROW_BYTES};
 use records::{HIGHEST_PRIORITY, THREADS};
-
-const STDOUT_FILENO: i32 = 1;
+use vector_lines::{end_line, labelled, text};
 
 // Lists, word and the place of every thread: the priority in whose list it must stand, 0 for none.
 #[derive(Clone, Copy)]
@@ -12,19 +15,6 @@ struct Case {
     lists: [u8; LIST_BYTES],
     word: u32,
     places: [u8; THREADS],
-}
-
-fn text(s: &[u8]) {
-    io::write_all(STDOUT_FILENO, s);
-}
-
-fn number(n: u64) {
-    io::write_all(STDOUT_FILENO, b" ");
-    io::print_decimal(STDOUT_FILENO, n);
-}
-
-fn byte(n: u8) {
-    number(n as u64);
 }
 
 fn fresh() -> Case {
@@ -35,161 +25,83 @@ fn fresh() -> Case {
     }
 }
 
-fn is_sound(c: Case) -> bool {
-    let lists = c.lists;
-    let places = c.places;
-    ready_sound::sound(&lists, c.word, places)
+fn is_sound(c: Case) -> bool
+    ensures { result ≡ sound_lists (λ i. get_or c.places i 0) c.word c.lists }
+{
+    ready_sound::sound(&c.lists, c.word, c.places)
 }
 
 // Thread i, in no list, becomes the tail of list p.
 fn append(c: Case, p: u8, i: u8) -> Case {
+    let at = usize::from(i);
+    if !is_sound(c) || THREADS <= at || c.places[at] != 0 || p < 1 || HIGHEST_PRIORITY < p {
+        return c;
+    }
     let mut lists = c.lists;
-    let mut places = c.places;
-    let word = c.word;
-    if !ready_sound::sound(&lists, word, places) {
-        return c;
-    }
-    if 32 <= i {
-        return c;
-    }
-    let at = i as usize;
-    if places[at] != 0 {
-        return c;
-    }
-    if p < 1 {
-        return c;
-    }
-    if HIGHEST_PRIORITY < p {
-        return c;
-    }
-    let w = ready_tail::append(&mut lists, word, p, i);
-    places[at] = p;
-    Case {
-        lists: lists,
-        word: w,
-        places: places,
-    }
+    let word = ready_tail::append(&mut lists, c.word, p, i);
+    with_place(Case { lists, word, ..c }, at, p)
 }
 
 // Thread i leaves the list of its place.
 fn remove(c: Case, i: u8) -> Case {
+    let at = usize::from(i);
+    if !is_sound(c) || THREADS <= at || c.places[at] == 0 {
+        return c;
+    }
     let mut lists = c.lists;
-    let mut places = c.places;
-    let word = c.word;
-    if !ready_sound::sound(&lists, word, places) {
-        return c;
-    }
-    if 32 <= i {
-        return c;
-    }
-    let at = i as usize;
-    let p = places[at];
-    if p == 0 {
-        return c;
-    }
-    let w = ready_removal::remove(&mut lists, word, p, i);
-    places[at] = 0;
-    Case {
-        lists: lists,
-        word: w,
-        places: places,
-    }
+    let word = ready_removal::remove(&mut lists, c.word, c.places[at], i);
+    with_place(Case { lists, word, ..c }, at, 0)
 }
 
 // Thread i goes from the list of its place to the tail of list p.
 fn move_to_tail(c: Case, i: u8, p: u8) -> Case {
+    let at = usize::from(i);
+    if !is_sound(c) || THREADS <= at || c.places[at] == 0 || p < 1 || HIGHEST_PRIORITY < p {
+        return c;
+    }
     let mut lists = c.lists;
-    let mut places = c.places;
-    let word = c.word;
-    if !ready_sound::sound(&lists, word, places) {
-        return c;
-    }
-    if 32 <= i {
-        return c;
-    }
-    let at = i as usize;
-    let from = places[at];
-    if from == 0 {
-        return c;
-    }
-    if p < 1 {
-        return c;
-    }
-    if HIGHEST_PRIORITY < p {
-        return c;
-    }
-    let w = ready_tail::move_to_tail(&mut lists, word, i, from, p);
-    places[at] = p;
-    Case {
-        lists: lists,
-        word: w,
-        places: places,
-    }
+    let word = ready_tail::move_to_tail(&mut lists, c.word, i, c.places[at], p);
+    with_place(Case { lists, word, ..c }, at, p)
 }
 
 // The first bytes of a row: at most n after the length.
 fn show_row(row: &[u8], n: u8) {
-    let last = n as usize;
-    let mut k: usize = 0;
-    while k < row.len() {
-        if last < k {
-            return;
-        }
-        byte(row[k]);
-        k = k + 1;
+    for x in row.iter().take(usize::from(n) + 1) {
+        labelled(b" ", u64::from(*x));
     }
 }
 
 // The length byte and the thread numbers of list p, as they stand in the array; nothing for a p that is no priority.
 fn show_list(lists: [u8; LIST_BYTES], p: u8) {
-    if p < 1 {
+    if p < 1 || HIGHEST_PRIORITY < p {
         return;
     }
-    if HIGHEST_PRIORITY < p {
-        return;
-    }
-    let at = (p as usize - 1) * ROW_BYTES;
+    let at = ready::row_start(p);
     let n = lists[at];
-    text(b" list");
-    byte(p);
+    labelled(b" list ", u64::from(p));
     text(b":");
     show_row(&lists[at..at + ROW_BYTES], n);
 }
 
 // The head of the highest list.
 fn show_head(c: Case) {
-    let lists = c.lists;
-    let places = c.places;
-    let word = c.word;
-    let p = ready::highest(word);
-    text(b" highest");
-    byte(p);
-    if word == 0 {
+    let p = ready::highest(c.word);
+    labelled(b" highest ", u64::from(p));
+    if c.word == 0 || !is_sound(c) {
         return;
     }
-    if !ready_sound::sound(&lists, word, places) {
-        return;
-    }
-    text(b" head");
-    byte(ready::head(&lists, p));
+    labelled(b" head ", u64::from(ready::head(&c.lists, p)));
 }
 
 // A line: the case's name, whether it is sound, the word, the highest list with its head, and the lists p and q.
 fn show(name: &[u8], c: Case, p: u8, q: u8) {
     text(name);
-    text(b": sound");
-    if is_sound(c) {
-        number(1);
-    } else {
-        number(0);
-    }
-    text(b" word");
-    number(c.word as u64);
+    labelled(b": sound ", u64::from(is_sound(c)));
+    labelled(b" word ", u64::from(c.word));
     show_head(c);
-    let lists = c.lists;
-    show_list(lists, p);
-    show_list(lists, q);
-    text(b"\n");
+    show_list(c.lists, p);
+    show_list(c.lists, q);
+    end_line();
 }
 
 // The case with another byte in its array.
@@ -202,9 +114,7 @@ fn with_byte(c: Case, at: usize, x: u8) -> Case {
 }
 
 fn with_word(c: Case, word: u32) -> Case {
-    let mut d = c;
-    d.word = word;
-    d
+    Case { word, ..c }
 }
 
 fn with_place(c: Case, i: usize, p: u8) -> Case {
@@ -225,10 +135,8 @@ fn five() -> Case {
 // Every thread in list 17, in number order.
 fn full() -> Case {
     let mut c = fresh();
-    let mut i: u8 = 0;
-    while i < 32 {
+    for i in 0..32 {
         c = append(c, 17, i);
-        i = i + 1;
     }
     c
 }

@@ -12,5 +12,5 @@ pub fn put_refusal(out: &mut [u8], status: u8) -> usize
     ensures put { Put out.old 0 (refused_line status) out.new result }
     ensures upper_bound { result ≤ refusal_most }
 {
-    text_fields::put_labelled(out, 0, b"refused ", status as u64)
+    text_fields::put_labelled(out, 0, b"refused ", u64::from(status))
 }

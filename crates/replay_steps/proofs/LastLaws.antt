@@ -1,5 +1,5 @@
 -- The last of the answers to a file's events.
-use Prim.Native.Nat.{ℕ, suc, ◌-◌, ◌<◌}
+use Prim.Native.Nat.{ℕ, suc, ◌-◌}
 use mathlib.Core.Bool.{true}
 use mathlib.Core.List.{List, [], ◌∷◌}
 use mathlib.Core.Path.{◌≡◌, refl, sym, ap, ◌∙◌, subst⁻¹}
@@ -9,7 +9,7 @@ use Rattle.passing.specs.Sequence.{Answer, answer, answers, end}
 use Rattle.state.specs.declared.State.{State}
 use Rattle.state.specs.Sound.{sound_state}
 use Rattle.events.specs.Answers.{executive}
-use Rattle.trace_reader.specs.declared.Next.TheVariants as next
+use Rattle.std.specs.Prelude.{Some, None}
 use Rattle.trace_reader.specs.Reader.{next_at, events_from}
 use Rattle.trace_reader.proofs.ReaderLaws.{from-event, from-none, from_end}
 use Rattle.executive.specs.Steps.{last_given, answer_to}
@@ -46,11 +46,11 @@ module _ (a : Answer State) (s : State) (file : List ℕ) (offset left : ℕ) wh
   pub none_left : left ≡ 0 → a ≡ last_of a (answers_from s file offset left)
   none_left z = none_is (ap (events_from file offset) z ∙ from-none file offset)
 
-  pub none-there : next_at file offset ≡ next.End → a ≡ last_of a (answers_from s file offset left)
+  pub none-there : next_at file offset ≡ None → a ≡ last_of a (answers_from s file offset left)
   none-there z = none_is (from_end file offset left z)
 
   -- or there is one
-  module _ (n : left ≡ 0 → ⊥) (e : Event) (after : ℕ) (z : next_at file offset ≡ next.Event e after) (r : Answer State) (f : r ≡ answer_to (last_given s e (events_from file after (left - 1)))) where
+  module _ (n : left ≡ 0 → ⊥) (e : Event) (after : ℕ) (z : next_at file offset ≡ Some (e, after)) (r : Answer State) (f : r ≡ answer_to (last_given s e (events_from file after (left - 1)))) where
     pub some_is : r ≡ last_of a (answers_from s file offset left)
     unfolding last_of answers_from
     some_is =

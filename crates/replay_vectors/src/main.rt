@@ -7,25 +7,13 @@ ghost use Rattle.io.specs.Counts.{IsPrefixLen};
 
 use std::env::{Env, FillError};
 use std::rt::Files;
-
-const STDOUT_FILENO: i32 = 1;
-
-fn wide(b: u8) -> u64 {
-    b as u64
-}
-
-fn line(label: &[u8], number: u64) {
-    io::write_all(STDOUT_FILENO, label);
-    io::write_all(STDOUT_FILENO, b" ");
-    io::print_decimal(STDOUT_FILENO, number);
-    io::write_all(STDOUT_FILENO, b"\n");
-}
+use vector_lines::{line, text, title};
 
 // The whole of the file that argument i names, where it fits the buffer; a file that can't be opened is named on the error output.
 fn stored(rt: &(impl Env + Files + Input), i: usize, file: &mut [u8]) -> usize
     ensures { IsPrefixLen result file.new }
 {
-    command::read_input(rt, i, file).length
+    command::read_input(rt, i, file).unwrap_or(0)
 }
 
 // Reads a file and writes what was read into a cleared buffer, which is compared whole: with the file where it is accepted, and with
@@ -35,16 +23,16 @@ fn rewritten(rt: &(impl Env + Files + Input), i: usize, name: &[u8]) {
     let mut out = io::large_buffer();
     let n = stored(rt, i, &mut file);
     let w = trace_copy::copy(&file[..n], &mut out);
-    line(name, wide(w.status));
+    line(name, u64::from(w.status));
     let cleared = io::large_buffer();
     if w.status == 0 {
         if check::same(&file, &out) {
-            io::write_all(STDOUT_FILENO, b"same\n");
+            title(b"same");
         }
         return;
     }
     if check::same(&cleared, &out) {
-        io::write_all(STDOUT_FILENO, b"unchanged\n");
+        title(b"unchanged");
     }
 }
 
@@ -54,8 +42,7 @@ fn listed(rt: &(impl Env + Files + Input), i: usize) {
     let mut out = io::large_buffer();
     let n = stored(rt, i, &mut file);
     let r = listing::listing(&file[..n], &mut out);
-    let length = r.length;
-    io::write_all(STDOUT_FILENO, &out[..length]);
+    text(&out[..r.length]);
 }
 
 // Runs the file that argument i names, and answers whether there is such an argument.

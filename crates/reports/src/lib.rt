@@ -1,7 +1,7 @@
 // What is told of the steps of the rules, as numbers in a lent array: thread i's four from i * PER_THREAD on.
 #![tactic(auto)]
 
-ghost use Rattle.std.specs.Prelude.{◌≡◌, ◌+◌, ◌*◌, ◌<◌, ◌^◌, length, get_or};
+ghost use Rattle.std.specs.Prelude.{◌≡◌, ◌+◌, ◌*◌, ◌<◌, ◌^◌, get_or};
 ghost use Rattle.records.specs.Ranges.{most_threads};
 ghost use Rattle.reports.specs.Tallies.{tally, plus, back_tally, per_thread, more, more_of, Tellable};
 
@@ -15,11 +15,10 @@ pub const NUMBERS: usize = THREADS * PER_THREAD;
 
 // n more at place k.
 fn add(told: &mut [u64; NUMBERS], k: usize, n: u64)
-    requires { (k < most_threads * per_thread) × (length told.old ≡ most_threads * per_thread) × (get_or told.old k 0 + n < 2 ^ 64) }
+    requires { (k < most_threads * per_thread) × (get_or told.old k 0 + n < 2 ^ 64) }
     ensures { told.new ≡ more k n told.old }
 {
-    let x = told[k];
-    told[k] = x + n;
+    told[k] += n;
 }
 
 // A quantum of thread i has ended.

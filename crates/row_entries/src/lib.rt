@@ -1,10 +1,10 @@
 // One entry comes into a thread's rows of dues and amounts, or the first one goes: the rows are changed in their place.
 #![tactic(auto)]
 
-ghost use Rattle.std.specs.Prelude.{◌≡◌, true, false, ◌+◌, ◌-◌, ◌*◌, ◌<◌, ◌≤◌, length, get_or};
+ghost use Rattle.std.specs.Prelude.{◌≡◌, true, false, ◌+◌, ◌-◌, ◌*◌, ◌<◌, ◌≤◌, get_or};
 ghost use Rattle.records.specs.Ranges.{most_threads};
 ghost use Rattle.entries.specs.Entries.{entries, without_first, slot_for, inserted};
-ghost use Rattle.rows.specs.Rows.{all_slots, slots_at, with_slots};
+ghost use Rattle.rows.specs.Rows.{slots_at, with_slots};
 
 use entries::ENTRIES;
 use rows::Slots;
@@ -19,7 +19,7 @@ pub fn insert_entry(
     due: u64,
     amount: u64,
 )
-    requires { (i < most_threads) × (count < entries) × (length dues.old ≡ all_slots) × (length amounts.old ≡ all_slots) }
+    requires { (i < most_threads) × (count < entries) }
     ensures { (dues.new ≡ with_slots i (inserted (slot_for due count (slots_at i dues.old)) count due (slots_at i dues.old)) dues.old)
         × (amounts.new ≡ with_slots i (inserted (slot_for due count (slots_at i dues.old)) count amount (slots_at i amounts.old)) amounts.old) }
 {
@@ -36,26 +36,18 @@ pub fn insert_entry(
 
 // Whether the due before slot k of thread i is later than `due`; before slot 0 there is none.
 fn later_before(dues: &Slots, i: usize, k: usize, due: u64) -> bool
-    requires { (i < most_threads) × (k < entries) × (length dues.now ≡ all_slots) }
+    requires { (i < most_threads) × (k < entries) }
     ensures { (result ≡ true → (0 < k) × (due < get_or dues.now (i * entries + (k - 1)) 0))
         × (result ≡ false → 0 < k → get_or dues.now (i * entries + (k - 1)) 0 ≤ due) }
 {
-    if k == 0 {
-        return false;
-    }
-    let d = dues[i * ENTRIES + (k - 1)];
-    if d <= due {
-        return false;
-    }
-    true
+    k != 0 && due < dues[i * ENTRIES + (k - 1)]
 }
 
 // Thread i's first number goes: each other one slot up, and the last slot is 0.
 pub fn remove_first(xs: &mut Slots, i: usize)
-    requires { (i < most_threads) × (length xs.old ≡ all_slots) }
+    requires { i < most_threads }
     ensures { xs.new ≡ with_slots i (without_first (slots_at i xs.old)) xs.old }
 {
     let row = rows::read_row(xs, i);
-    let rest = entries::without_first(row);
-    rows::write_row(xs, i, rest);
+    rows::write_row(xs, i, entries::without_first(row));
 }

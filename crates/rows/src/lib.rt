@@ -11,7 +11,7 @@ use records::THREADS;
 // How many slots the threads have together.
 pub const SLOTS: usize = THREADS * ENTRIES;
 
-// The dues or the amounts of all threads.
+// The dues or the amounts of all threads. Two arrays and no struct of both, since C lends each apart.
 pub type Slots = [u64; SLOTS];
 
 // How many numbers are lent: an array that is lent as a slice has a known length from then on.
@@ -30,28 +30,20 @@ pub fn clear(xs: &mut Slots)
 
 // Thread i's slots.
 pub fn read_row(xs: &Slots, i: usize) -> [u64; ENTRIES]
-    requires { (i < most_threads) × (length xs.now ≡ all_slots) }
+    requires { i < most_threads }
     ensures { result ≡ slots_at i xs.now }
 {
     let mut row = [0u64; ENTRIES];
     let from = i * ENTRIES;
-    let mut j: usize = 0;
-    while j < ENTRIES {
-        row[j] = xs[from + j];
-        j = j + 1;
-    }
+    row.copy_from_slice(&xs[from..from + ENTRIES]);
     row
 }
 
 // Other numbers in thread i's slots.
 pub fn write_row(xs: &mut Slots, i: usize, row: [u64; ENTRIES])
-    requires { (i < most_threads) × (length xs.old ≡ all_slots) }
+    requires { i < most_threads }
     ensures { xs.new ≡ with_slots i row xs.old }
 {
     let at = i * ENTRIES;
-    let mut j: usize = 0;
-    while j < ENTRIES {
-        xs[at + j] = row[j];
-        j = j + 1;
-    }
+    xs[at..at + ENTRIES].copy_from_slice(&row);
 }

@@ -19,7 +19,7 @@ pub fn head_at(lists: &[u8; LIST_BYTES], p: u8) -> u8
     ready::head(lists, p)
 }
 
-// The running thread, 255 for none.
+// The running thread, 255 for none: a number and no Option, since C and the trace's answers have it.
 pub fn running(word: u32, lists: &[u8; LIST_BYTES]) -> u8
     requires { eqb (highest_of word) 0 ≡ false → Held (highest_of word) lists.now }
     ensures { result ≡ cond (eqb (highest_of word) 0) 255 (head_of (highest_of word) lists.now) }

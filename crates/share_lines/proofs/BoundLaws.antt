@@ -1,5 +1,5 @@
 -- A share whose total is not 0 lies between 2^-50 and 1.
-use Prim.Native.Nat.{ℕ, ◌*◌, ◌^◌, ◌≤◌, ◌<◌}
+use Prim.Native.Nat.{ℕ, ◌^◌, ◌≤◌, ◌<◌}
 use mathlib.Core.Bool.{false}
 use mathlib.Core.Path.{◌≡◌, refl, sym, subst}
 use native.Mathlib.Omega.{arith}
@@ -9,7 +9,7 @@ use lib.Pow.{pow_pos, pow-lt}
 use lib.Ieee.{Float, binary64, round, le}
 use lib.Ieee.Exact.{HasValue, round_exact}
 use lib.Ieee.Order.{round_mono}
-use lib.Ieee.Positive.{num, den, positive, own_value, positive_of_value, values_of_le, between}
+use lib.Ieee.Positive.{num, den, own_value, positive_of_value, values_of_le, between}
 use Rattle.decimals.specs.Decimals.{InUnit}
 use Rattle.quotient.specs.Quotient.{quotient}
 use Rattle.quotient.proofs.QuotientLaws.{nearest-quotient}

@@ -75,7 +75,7 @@ fn put_leader(out: &mut [u8], mut at: usize, word: &[u8], thread: u8, x: f64) ->
     ensures upper_bound { result ≤ at + leader_line_most }
 {
     at = put_word(out, at, word);
-    at = put_field(out, at, thread as u64, b' ');
+    at = put_field(out, at, u64::from(thread), b' ');
     put_digits(out, at, x)
 }
 
@@ -104,13 +104,18 @@ fn put_threads<'o, 'a>(
     ensures put { Put out.old at (share_lines (whole c dues.now amounts.now) c.header.n) out.new result }
     ensures upper_bound { result ≤ at + share_lines_most }
 {
-    let n = c.header.n as usize;
+    let n = c.header.n as u8;
     let elapsed = c.now - c.header.start;
-    let mut i = 0;
-    while i < n {
-        let x = shares::share_of(c, dues, amounts, i as u8);
-        at = put_line(out, at, i as u64, c.threads[i].total, elapsed, x);
-        i += 1;
+    for i in 0..n {
+        let x = shares::share_of(c, dues, amounts, i);
+        at = put_line(
+            out,
+            at,
+            u64::from(i),
+            c.threads[usize::from(i)].total,
+            elapsed,
+            x,
+        );
     }
     at
 }

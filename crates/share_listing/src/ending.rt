@@ -18,15 +18,13 @@ pub(super) fn put_listing(out: &mut [u8], file: &[u8]) -> usize
     if begun.status != 0 {
         return refusal_line::put_refusal(out, begun.status);
     }
-    let opened = begun.answer;
     let last = replay_steps::last_answer(
-        opened,
+        begun.answer,
         &mut dues,
         &mut amounts,
         file,
         begun.offset,
         EVENTS,
     );
-    let core = last.core;
-    share_lines::put_shares(out, 0, core, &dues, &amounts)
+    share_lines::put_shares(out, 0, last.core, &dues, &amounts)
 }

@@ -9,6 +9,7 @@ ghost use Rattle.state.specs.Updates.{whole};
 ghost use Rattle.share_summary.specs.Summaries.{summarized_of};
 ghost use Rattle.share_summary.specs.Private.{leaders_of};
 
+use base::Refusal;
 use quotient::quotient;
 use records::THREADS;
 use rows::Slots;
@@ -25,6 +26,7 @@ pub struct Summary {
 }
 
 // The summary; none, where no time has passed; or the number by which it is refused.
+// Three cases and no `Result`, as a thread's share has: `summarized_of` speaks of the number.
 #[derive(Clone, Copy)]
 pub enum Summarized {
     Of(Summary),
@@ -47,20 +49,19 @@ struct Leaders {
 }
 
 // Of the first n threads those with the most and the least run time.
-fn leading(threads: [Thread; THREADS], n: usize) -> Leaders
+fn leading(threads: &[Thread; THREADS], n: u8) -> Leaders
     requires { n ≤ most_threads }
-    ensures { result ≡ leaders_of threads n }
+    ensures { result ≡ leaders_of threads.now n }
 {
     let mut most = Leader {
         thread: 0,
         total: threads[0].total,
     };
     let mut least = most;
-    let mut i: usize = 0;
-    while i < n {
+    for i in 0..n {
         let here = Leader {
-            thread: i as u8,
-            total: threads[i].total,
+            thread: i,
+            total: threads[usize::from(i)].total,
         };
         if most.total < here.total {
             most = here;
@@ -68,7 +69,6 @@ fn leading(threads: [Thread; THREADS], n: usize) -> Leaders
         if here.total < least.total {
             least = here;
         }
-        i = i + 1;
     }
     Leaders { most, least }
 }
@@ -77,18 +77,14 @@ fn leading(threads: [Thread; THREADS], n: usize) -> Leaders
 pub fn summary_of<'a>(c: Core, dues: &'a Slots, amounts: &'a Slots) -> Summarized
     ensures { result ≡ summarized_of (whole c dues.now amounts.now) }
 {
-    rows::slots(dues);
-    rows::slots(amounts);
     if !state_sound::sound(c, dues, amounts) {
-        return Summarized::Refused(base::NOT_SOUND);
+        return Summarized::Refused(u8::from(Refusal::NotSound));
     }
     let elapsed = c.now - c.header.start;
     if elapsed == 0 {
         return Summarized::NoTime;
     }
-    let n = c.header.n as usize;
-    let threads = c.threads;
-    let l = leading(threads, n);
+    let l = leading(&c.threads, c.header.n as u8);
     Summarized::Of(Summary {
         largest: quotient(l.most.total, elapsed),
         largest_thread: l.most.thread,

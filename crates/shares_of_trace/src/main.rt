@@ -2,26 +2,19 @@
 // failed where the trace can't be read or the lines can't be written.
 #![tactic(auto)]
 
+use command::{Ending, Told};
 use share_listing::LARGEST;
 
 // Writes the lines of a file.
-fn list(rt: &impl Print, file: &[u8]) -> u8 {
+fn list(rt: &impl Print, file: &[u8]) -> Result<Ending, Told> {
     let mut out = [0u8; LARGEST];
     let length = share_listing::thawonlai_share_listing(file, &mut out);
-    if !command::write_all(rt, &out[..length]) {
-        return command::FAILED;
-    }
-    replay_end::end_of(file)
+    command::write_all(rt, &out[..length])?;
+    Ok(replay_end::end_of(file))
 }
 
 // A trace has at most 60,800 bytes: of a longer file the first 65,536 are refused as the whole of it is.
 fn main(rt: HostRuntime) {
     let mut file = io::large_buffer();
-    let input = command::read_input(&rt, 1, &mut file);
-    if !input.whole {
-        command::end(command::FAILED);
-        return;
-    }
-    let length = input.length;
-    command::end(list(&rt, &file[..length]));
+    command::run_on_input(&rt, &mut file, |rt, file| list(rt, file));
 }

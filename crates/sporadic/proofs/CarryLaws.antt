@@ -1,15 +1,14 @@
--- Carrying a server over, by cases, and what it means that a set is not refused.
+-- What it means that a set is not refused.
 use Prim.Native.Nat.{ℕ, ◌+◌, ◌-◌, ◌≤◌, ◌<◌}
-use mathlib.Core.Bool.{Bool, true, false, cond, not, ◌&&◌, ◌||◌}
-use mathlib.Core.Path.{◌≡◌, refl, sym, ap, ◌∙◌}
+use mathlib.Core.Bool.{Bool, true, false, cond, ◌&&◌, ◌||◌}
+use mathlib.Core.Path.{◌≡◌, refl, sym, ◌∙◌}
 use lib.Dec.{ltb, leb, eqb}
 use native.Mathlib.Omega.{arith}
 use borrow.Author.Tests.{ltb-false, leb-false, eqb-false}
-use Rattle.base.proofs.TestLaws.{false-true, cond-true, cond-false}
+use Rattle.base.proofs.TestLaws.{false-true}
 use Rattle.records.specs.declared.Parameters.{Parameters}
-use Rattle.sporadic.specs.declared.Server.{Server}
 use Rattle.sporadic.specs.Rules.{at_upper}
-use Rattle.sporadic.specs.Carry.{carried_capacity, goes_up, carried_server, budget_too_small, too_many_pending, cant_carry}
+use Rattle.sporadic.specs.Carry.{budget_too_small, too_many_pending, cant_carry}
 
 or-false : (x y : Bool) → (x || y) ≡ false → (x ≡ false) × (y ≡ false)
 or-false true y e = false-true (sym e)
@@ -45,51 +44,3 @@ module _ (old new : Parameters) (capacity count : ℕ) where
       let up = cond blocked false (at_upper old capacity count) in
       let r = or-false (budget_too_small old new capacity) (too_many_pending up new count) e in
       carries-from up r.0 r.1
-
--- ---- for the code
-
-module _ (blocked : Bool) (old new : Parameters) (capacity count : ℕ) where
-  pub refused-budget : budget_too_small old new capacity ≡ true → true ≡ cant_carry blocked old new capacity count
-  unfolding cant_carry
-  refused-budget e = sym (ap (λ (b : Bool). b || too_many_pending (cond blocked false (at_upper old capacity count)) new count) e)
-
-  pub refused-count : budget_too_small old new capacity ≡ false → (u : Bool) → u ≡ cond blocked false (at_upper old capacity count)
-      → too_many_pending u new count ≡ cant_carry blocked old new capacity count
-  unfolding cant_carry
-  refused-count e u f =
-      ap (λ (v : Bool). too_many_pending v new count) f
-      ∙ sym (ap (λ (b : Bool). b || too_many_pending (cond blocked false (at_upper old capacity count)) new count) e)
-
-module _ (blocked : Bool) (old new : Parameters) (count : ℕ) (s : Server) where
-  pub was-up : at_upper old s.capacity count ≡ true → false ≡ goes_up blocked old new count s
-  was-up e = go (not blocked) (at_upper old s.capacity count) (at_upper new (carried_capacity old new s.capacity) count) e
-    where
-      go : (x y z : Bool) → y ≡ true → false ≡ (x && (not y && z))
-      go true true z f = refl
-      go false true z f = refl
-      go x false z f = false-true f
-
-  pub was-low : blocked ≡ false → at_upper old s.capacity count ≡ false → (capacity : ℕ) → capacity ≡ carried_capacity old new s.capacity
-      → at_upper new capacity count ≡ goes_up blocked old new count s
-  was-low f e capacity q =
-      ap (λ (m : ℕ). at_upper new m count) q ∙ go blocked (at_upper old s.capacity count) (at_upper new (carried_capacity old new s.capacity) count) f e
-    where
-      go : (x y z : Bool) → x ≡ false → y ≡ false → z ≡ (not x && (not y && z))
-      go false false z f e = refl
-      go true y z f e = false-true (sym f)
-      go false true z f e = false-true (sym e)
-
-  module _ (now : ℕ) (g : Bool) (f : g ≡ goes_up blocked old new count s) where
-    pub server-now : g ≡ true
-        → ◌≡◌ {A = Server} (record { capacity = carried_capacity old new s.capacity; used = s.used; activation = now }) (carried_server now blocked old new count s)
-    unfolding carried_server
-    server-now e =
-        let q = sym (cond-true (goes_up blocked old new count s) now s.activation (sym f ∙ e)) in
-        λ i. record { capacity = carried_capacity old new s.capacity; used = s.used; activation = q i }
-
-    pub server-own : g ≡ false
-        → ◌≡◌ {A = Server} (record { capacity = carried_capacity old new s.capacity; used = s.used; activation = s.activation }) (carried_server now blocked old new count s)
-    unfolding carried_server
-    server-own e =
-        let q = sym (cond-false (goes_up blocked old new count s) now s.activation (sym f ∙ e)) in
-        λ i. record { capacity = carried_capacity old new s.capacity; used = s.used; activation = q i }

@@ -3,13 +3,13 @@
 #![tactic(auto)]
 
 ghost use Rattle.std.specs.Prelude.{◌≡◌, ◌+◌, ◌<◌, ◌≤◌, ◌^◌};
-ghost use Rattle.sporadic.specs.Rules.{at_upper, charged};
+ghost use Rattle.sporadic.specs.Rules.{unchanged, at_upper, charged};
 
 use records::Parameters;
 
 // Capacity, the charged time that is not yet scheduled (01's U), and the activation time.
 #[repr(C)]
-#[derive(Clone, Copy)]
+#[derive(Clone, Copy, PartialEq, Eq)]
 pub struct Server {
     pub capacity: u64,
     pub used: u64,
@@ -27,7 +27,7 @@ pub enum Place {
 
 // What a rule does, without the entries that were there: the server that it leaves; where the thread goes; the amount that
 // becomes pending, 0 for none, with its due time; the amount that came back, 0 for none; and whether that was the first
-// entry, which is then gone.
+// entry, which is then gone. Numbers and no Options: the definitions of the rules hold a 0 for none.
 #[derive(Clone, Copy)]
 pub struct Effect {
     pub server: Server,
@@ -38,14 +38,25 @@ pub struct Effect {
     pub first: bool,
 }
 
+// Nothing happens.
+pub fn unchanged(s: Server) -> Effect
+    ensures { result ≡ unchanged s }
+{
+    Effect {
+        server: s,
+        place: Place::Stays,
+        due: 0,
+        amount: 0,
+        back: 0,
+        first: false,
+    }
+}
+
 // Whether the assigned priority is the upper one.
 pub fn at_upper(p: Parameters, capacity: u64, count: u8) -> bool
     ensures { result ≡ at_upper p capacity count }
 {
-    if capacity == 0 {
-        return false;
-    }
-    count < p.max_repl
+    0 < capacity && count < p.max_repl
 }
 
 // k ticks run at the upper priority.
@@ -56,6 +67,6 @@ pub fn charge(s: Server, k: u64) -> Server
     Server {
         capacity: s.capacity - k,
         used: s.used + k,
-        activation: s.activation,
+        ..s
     }
 }

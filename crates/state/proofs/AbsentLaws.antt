@@ -8,7 +8,7 @@ use lib.ListN.{length, drop, get_or}
 use lib.Bits.{bit_or}
 use lib.Dec.{ltb, eqb}
 use borrow.Author.Tests.{lt-ltb, le-ltb, eqb-true}
-use Rattle.base.specs.Tests.{all, below, zeros}
+use Rattle.base.specs.Tests.{all, zeros}
 use Rattle.base.proofs.TestLaws.{tests, All, all_true, true-all, all_one, same_test, below_at, cond-true, cond-false}
 use Rattle.base.proofs.ZeroLaws.{or-none, cond_both, Clear, part-clear, clear-part, drop-clear, clear-drop}
 use Rattle.records.specs.declared.Parameters.{Parameters}

@@ -10,7 +10,7 @@ use thread::Thread;
 // The lists of the priorities are the array of the crate `ready`. Every definition speaks of this record; in code it is a
 // `Core` by value and the two arrays of slots, lent.
 #[repr(C)]
-#[derive(Clone, Copy)]
+#[derive(Clone, Copy, PartialEq, Eq)]
 pub struct State {
     pub header: Header,
     pub now: u64,

@@ -19,13 +19,9 @@ pub fn put_word(out: &mut [u8], at: usize, word: &[u8]) -> usize
     requires { at + length word.now ≤ length out.old }
     ensures { Put out.old at word.now out.new result }
 {
-    let mut i = 0;
-    let mut here = at;
-    while i < word.len() {
-        here = put_byte(out, here, word[i]);
-        i += 1;
-    }
-    here
+    let end = at + word.len();
+    out[at..end].copy_from_slice(word);
+    end
 }
 
 // A number in decimal, without leading zeros.

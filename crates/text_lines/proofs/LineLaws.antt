@@ -1,14 +1,16 @@
 -- Laws of lines: what one byte more at the front of a text changes.
-use Prim.Native.Nat.{ℕ, suc, ◌+◌, ◌≤◌, ◌<◌}
-use mathlib.Core.Bool.{Bool, true, false, cond}
+use Prim.Native.Nat.{ℕ, suc, min, ◌+◌, ◌≤◌, ◌<◌}
+use mathlib.Core.Bool.{Bool, true, false, cond, not}
 use mathlib.Core.List.{List, [], ◌∷◌, ◌++◌}
 use mathlib.Core.Path.{◌≡◌, refl, sym, ap, ◌∙◌}
 use native.Mathlib.Omega.{arith}
-use lib.Dec.{eqb}
-use lib.ListN.{length, take, drop, get_or, length-take, drop_of_length-le}
+use lib.Dec.{eqb, ltb}
+use lib.ListN.{length, take, drop, get_or, drop_of_length-le}
 use lib.Seq.{drop-cons}
 use native.Mathlib.Numerals.{add-one}
-use borrow.Author.Tests.{eq-eqb, ne_eqb, eqb-true, eqb-false}
+use borrow.Author.Tests.{eq-eqb, ne_eqb, eqb-true, eqb-false, ltb-true, ltb-false}
+use Rattle.std.specs.Prelude.{Some, None}
+use Rattle.std.specs.List.{position, position_or_len}
 use Rattle.base.proofs.TestLaws.{cond-elim, false-true}
 use Rattle.text_lines.specs.Lines.{before, lines_of, line_length, equal, starts_with, difference_from, first_difference, NoDifference}
 use Rattle.text.specs.Fields.{newline}
@@ -155,38 +157,53 @@ module _ (k : ℕ) (a b : List ℕ) (i : ℕ) where
   pub stops_at : i < length a → i < length b → (get_or a i 0 ≡ get_or b i 0 → ⊥) → differs k a b i ≡ k
   stops_at h g e = rw (drop-cons a i 0 h, drop-cons b i 0 g) (byte-apart k (get_or a i 0) (get_or b i 0) (drop (suc i) a) (drop (suc i) b) e)
 
-  pub is-missing : i < length a → length b ≤ i → differs k a b i ≡ k
+  is-missing : i < length a → length b ≤ i → differs k a b i ≡ k
   is-missing h g = rw (drop-cons a i 0 h, drop_of_length-le b g) (end-second k (get_or a i 0) (drop (suc i) a))
 
-  pub is-surplus : length a ≤ i → i < length b → differs k a b i ≡ k
+  is-surplus : length a ≤ i → i < length b → differs k a b i ≡ k
   is-surplus g h = rw (drop_of_length-le a g, drop-cons b i 0 h) (end-first k (get_or b i 0) (drop (suc i) b))
+
+  -- the shorter text ends
+  pub is-longer : i ≡ min (length a) (length b) → (length a ≡ length b → ⊥) → differs k a b i ≡ k
+  is-longer e n = go (ltb i (length a)) refl
+    where
+      go : (x : Bool) → ltb i (length a) ≡ x → differs k a b i ≡ k
+      go true h = let l = ltb-true _ _ h in is-missing (omega arith) (omega arith)
+      go false h = let l = ltb-false _ _ h in is-surplus (omega arith) (omega arith)
 
   pub is_same : length a ≤ i → length b ≤ i → differs k a b i ≡ 0
   is_same g h = rw (drop_of_length-le a g, drop_of_length-le b h) (end-both k)
 
--- the length of the line at a place
-module _ (s : List ℕ) (i : ℕ) where
-  pub line-ends : i < length s → get_or s i 0 ≡ newline → line_length (drop i s) ≡ 1
-  unfolding line_length
-  line-ends h e = rw (drop-cons s i 0 h, e)
+-- the first newline ends the line, and without one the text does
+abbrev pub is_newline : ℕ → Bool
+is_newline b = eqb b newline
 
-  pub line-goes-on : i < length s → (get_or s i 0 ≡ newline → ⊥) → line_length (drop i s) ≡ suc (line_length (drop (i + 1) s))
-  unfolding line_length
-  line-goes-on h e = rw (drop-cons s i 0 h, add-one, line_length, ne_eqb (get_or s i 0) newline e)
+line-position : (s : List ℕ) → line_length s ≡ min (position_or_len is_newline s + 1) (length s)
+unfolding line_length
+line-position [] = omega arith
+line-position (b ∷ s) = go (eqb b newline) (line-position s)
+  where
+    go : (x : Bool) → line_length s ≡ min (position_or_len is_newline s + 1) (length s)
+        → cond x 1 (suc (line_length s)) ≡ min (cond (not x) (1 + position_or_len is_newline s) 0 + 1) (suc (length s))
+    go true e = omega arith
+    go false e = omega arith
 
-  pub line-stops : length s ≤ i → line_length (drop i s) ≡ 0
-  unfolding line_length
-  line-stops h = rw (drop_of_length-le s h)
+module _ (s : List ℕ) where
+  pub line-at : (i : ℕ) → position is_newline s ≡ Some i → line_length s ≡ i + 1
+  line-at i = go (ltb (position_or_len is_newline s) (length s)) refl
+    where
+      go : (x : Bool) → ltb (position_or_len is_newline s) (length s) ≡ x → cond x (Some (position_or_len is_newline s)) None ≡ Some i → line_length s ≡ i + 1
+      go true e h = let q : position_or_len is_newline s ≡ i = cc in omega (arith, ltb-true _ _ e, line-position s)
+      go false e h = cc
+
+  pub line-rest : position is_newline s ≡ None → line_length s ≡ length s
+  line-rest = go (ltb (position_or_len is_newline s) (length s)) refl
+    where
+      go : (x : Bool) → ltb (position_or_len is_newline s) (length s) ≡ x → cond x (Some (position_or_len is_newline s)) None ≡ None → line_length s ≡ length s
+      go true e h = cc
+      go false e h = omega (arith, ltb-false _ _ e, line-position s)
 
 -- a word at the start, told by a test that is true exactly there
-pub too_short : (w s : List ℕ) → length s < length w → starts_with w s ≡ false
-unfolding starts_with
-too_short w s h = go (equal (take (length w) s) w) refl
-  where
-    go : (b : Bool) → equal (take (length w) s) w ≡ b → b ≡ false
-    go true e = absurd (omega (arith, ap length (equal-eq (take (length w) s) w e), length-take (length w) s))
-    go false e = refl
-
 pub starts-as : (w s : List ℕ) (b : Bool) → (b ≡ true → take (length w) s ≡ w) → (take (length w) s ≡ w → b ≡ true) → b ≡ starts_with w s
 unfolding starts_with
 starts-as w s true f g = sym (rw (f refl) (equal-refl w))

@@ -1,6 +1,6 @@
 -- The lines of a text, and the first in which two texts differ. A line is its bytes with its newline. Ours: bytes after the last newline are
 -- a line that has none, and the empty text has no line.
-use Rattle.std.specs.Prelude.{ℕ, suc, Bool, true, false, cond, List, [], ◌∷◌, ◌≡◌, eqb, length, take}
+use Rattle.std.specs.Prelude.{ℕ, zero, suc, ◌+◌, Bool, true, false, cond, List, [], ◌∷◌, ◌≡◌, eqb, length, take, drop}
 use Rattle.text.specs.Fields.{newline}
 
 -- a byte that is no newline stands before the first of the lines after it
@@ -17,6 +17,11 @@ lines_of (b ∷ bs) = cond (eqb b newline) ((b ∷ []) ∷ lines_of bs) (before 
 unfoldable pub line_length : List ℕ → ℕ
 line_length [] = 0
 line_length (b ∷ bs) = cond (eqb b newline) 1 (suc (line_length bs))
+
+-- how many bytes so many lines at the start of a text have
+unfoldable pub lines_length : ℕ → List ℕ → ℕ
+lines_length zero s = 0
+lines_length (suc n) s = line_length s + lines_length n (drop (line_length s) s)
 
 -- the same bytes
 unfoldable pub equal : List ℕ → List ℕ → Bool

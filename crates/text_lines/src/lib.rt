@@ -3,4 +3,4 @@
 
 mod lines;
 
-pub use lines::{first_difference, line_end, starts_with};
+pub use lines::{first_difference, line_end, lines_end, starts_with};

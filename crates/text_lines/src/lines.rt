@@ -1,16 +1,12 @@
 // Lines: where one ends, what it starts with, and the first in which two texts differ.
 ghost use Rattle.std.specs.Prelude.{◌≡◌, ◌+◌, ◌≤◌, length, drop};
-ghost use Rattle.text_lines.specs.Lines.{first_difference, line_length, starts_with};
+ghost use Rattle.text_lines.specs.Lines.{first_difference, line_length, starts_with, lines_length};
 
 // Whether a text starts with a word, byte for byte.
 pub fn starts_with(text: &[u8], word: &[u8]) -> bool
     ensures { result ≡ starts_with word.now text.now }
 {
-    let n = word.len();
-    if text.len() < n {
-        return false;
-    }
-    check::same(&text[..n], word)
+    text.starts_with(word)
 }
 
 // The place after the line that starts at a place, its newline included.
@@ -18,15 +14,22 @@ pub fn line_end(text: &[u8], place: usize) -> usize
     requires { place ≤ length text.now }
     ensures { result ≡ place + line_length (drop place text.now) }
 {
-    let mut i = place;
-    while i < text.len() {
-        let b = text[i];
-        i += 1;
-        if b == b'\n' {
-            return i;
-        }
+    match text[place..].iter().position(|&b| b == b'\n') {
+        Some(passed) => place + passed + 1,
+        None => text.len(),
     }
-    i
+}
+
+// The place after so many lines of a text; the text's end where it has no more.
+pub fn lines_end(text: &[u8], lines: usize) -> usize
+    ensures value { result ≡ lines_length lines text.now }
+    ensures within { result ≤ length text.now }
+{
+    let mut place = 0;
+    for _line in 0..lines {
+        place = line_end(text, place);
+    }
+    place
 }
 
 // The number, from 1, of the first line that differs, is missing or is surplus; 0 where the texts agree byte for byte. Lines that
@@ -35,23 +38,13 @@ pub fn first_difference(a: &[u8], b: &[u8]) -> usize
     ensures { result ≡ first_difference a.now b.now }
 {
     let mut passed = 0;
-    let mut i = 0;
-    while i < a.len() {
-        let x = a[i];
-        if b.len() <= i {
+    for (x, y) in a.iter().zip(b) {
+        if x != y {
             return passed + 1;
         }
-        if x != b[i] {
-            return passed + 1;
-        }
-        i += 1;
-        if x == b'\n' {
+        if *x == b'\n' {
             passed += 1;
-            continue;
         }
     }
-    if i < b.len() {
-        return passed + 1;
-    }
-    0
+    if a.len() == b.len() { 0 } else { passed + 1 }
 }

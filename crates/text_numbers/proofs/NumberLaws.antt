@@ -2,6 +2,7 @@
 use Prim.Native.Nat.{ℕ, zero, suc, ◌+◌, ◌*◌, ◌-◌, ◌/◌, ◌%◌, ◌≤◌, ◌<◌}
 use mathlib.Core.Bool.{Bool, true, false, cond}
 use mathlib.Core.List.{List, [], ◌∷◌, ◌++◌, append_assoc, append-nil}
+use Rattle.std.specs.Prelude.{Option, Some, None}
 use mathlib.Core.Path.{◌≡◌, refl, sym, ap, ap₂, ◌∙◌, subst}
 use native.Mathlib.Omega.{arith}
 use native.Mathlib.Numerals.{add-one}
@@ -10,12 +11,10 @@ use lib.ListN.{length, take, drop, get_or, length-append, length-drop, drop_of_l
 use lib.Seq.{drop-cons, take-suc, take-add, take_at, drop_at, get_or_at, length-take-le, split_at, append_snoc, get_or-take, drop-drop, take-suc-set, drop-set-lt}
 use borrow.Author.Tests.{le-leb, lt-leb, leb-true, leb-false, eq-eqb, ne_eqb, eqb-true, eqb-false}
 use Rattle.base.specs.Tests.{all}
-use Rattle.base.proofs.TestLaws.{all_true, true-all, all-false, cond-elim, false-true, all_one}
+use Rattle.base.proofs.TestLaws.{all_true, true-all, all-false, cond-elim, all_one}
 use Rattle.text.specs.Decimal.{decimal, read_from}
 use Rattle.text.proofs.DecimalLaws.{small, large, read_more, reads-back, no-leading-zero, every}
-use Rattle.text_numbers.specs.declared.Number.{Number}
-use Rattle.text_numbers.specs.declared.Number.TheVariants as number
-use Rattle.text_numbers.specs.Numbers.{digit, digit_count, leading_value, starts_with_number, decimal_at, pick, end_byte, no_numbers, numbers_found, end_of, numbers_text, are_numbers, numbers_of, Within, Below, TextIsRead, OnlyTextIsRead}
+use Rattle.text_numbers.specs.Numbers.{digit, digit_count, leading_value, starts_with_number, decimal_at, end_byte, numbers_found, end_of, numbers_text, are_numbers, numbers_of, Within, Below, TextIsRead, OnlyTextIsRead}
 
 pub digit-range : (b : ℕ) → digit b ≡ true → (48 ≤ b) × (b ≤ 57)
 digit-range b e = let t = all_true (leb 48 b ∷ leb b 57 ∷ []) e in (leb-true 48 b t.0, leb-true b 57 t.1.0)
@@ -122,11 +121,11 @@ module _ (most end : ℕ) (s : List ℕ) where
 
 -- the answer at a place
 pub found : (most end : ℕ) (s : List ℕ) (at v next : ℕ) → starts_with_number most end (drop at s) ≡ true → v ≡ leading_value (drop at s) → next ≡ at + digit_count (drop at s) + 1
-    → number.Value v next ≡ decimal_at most end s at
+    → Some (v, next) ≡ decimal_at most end s at
 unfolding decimal_at
 found most end s at v next e p q = rw (e, p, q)
 
-pub not_found : (most end : ℕ) (s : List ℕ) (at : ℕ) → starts_with_number most end (drop at s) ≡ false → number.Nothing ≡ decimal_at most end s at
+pub not_found : (most end : ℕ) (s : List ℕ) (at : ℕ) → starts_with_number most end (drop at s) ≡ false → None ≡ decimal_at most end s at
 unfolding decimal_at
 not_found most end s at e = rw e
 
@@ -373,25 +372,27 @@ only-text-is-read (m ∷ ms) s h =
     )
 
 -- what an answer at a place says
-value_found : (most end : ℕ) (s : List ℕ) (at v next : ℕ) → decimal_at most end s at ≡ number.Value v next
+value_found : (most end : ℕ) (s : List ℕ) (at v next : ℕ) → decimal_at most end s at ≡ Some (v, next)
     → (starts_with_number most end (drop at s) ≡ true) × ((v ≡ leading_value (drop at s)) × (next ≡ at + digit_count (drop at s) + 1))
 unfolding decimal_at
 value_found most end s at v next = go (starts_with_number most end (drop at s)) refl
   where
     go : (b : Bool) → starts_with_number most end (drop at s) ≡ b
-        → pick b (number.Value (leading_value (drop at s)) (at + digit_count (drop at s) + 1)) number.Nothing ≡ number.Value v next
+        → cond {A = Option (ℕ × ℕ)} b (Some (leading_value (drop at s), at + digit_count (drop at s) + 1)) None ≡ Some (v, next)
         → (starts_with_number most end (drop at s) ≡ true) × ((v ≡ leading_value (drop at s)) × (next ≡ at + digit_count (drop at s) + 1))
-    go true e h = (e, (cc, cc))
-    go false e h = let z : ◌≡◌ {A = ℕ} 0 1 = cc in absurd (omega arith)
+    go true e h =
+        let q : (leading_value (drop at s), at + digit_count (drop at s) + 1) ≡ (v, next) = cc in
+        (e, (sym (ap (λ (p : ℕ × ℕ). p.0) q), sym (ap (λ (p : ℕ × ℕ). p.1) q)))
+    go false e h = cc
 
-none_found : (most end : ℕ) (s : List ℕ) (at : ℕ) → decimal_at most end s at ≡ number.Nothing → starts_with_number most end (drop at s) ≡ false
+none_found : (most end : ℕ) (s : List ℕ) (at : ℕ) → decimal_at most end s at ≡ None → starts_with_number most end (drop at s) ≡ false
 unfolding decimal_at
 none_found most end s at = go (starts_with_number most end (drop at s)) refl
   where
     go : (b : Bool) → starts_with_number most end (drop at s) ≡ b
-        → pick b (number.Value (leading_value (drop at s)) (at + digit_count (drop at s) + 1)) number.Nothing ≡ number.Nothing
+        → cond {A = Option (ℕ × ℕ)} b (Some (leading_value (drop at s), at + digit_count (drop at s) + 1)) None ≡ None
         → starts_with_number most end (drop at s) ≡ false
-    go true e h = let z : ◌≡◌ {A = ℕ} 0 1 = cc in absurd (omega arith)
+    go true e h = cc
     go false e h = e
 
 -- the byte after the number i
@@ -417,7 +418,7 @@ pub left-all : (ms text : List ℕ) (at : ℕ) → Left ms (drop at text) text (
 left-all ms text at = record { same = refl; so_far = refl; size = refl; rest = refl }
 
 module _ (ms s text values : List ℕ) (at i : ℕ) (p : Left ms s text values at i) (h : i < length ms) (l : length ms ≤ 8) where
-  one_right : (n : Number) → decimal_at (get_or ms i 0) (end_byte (eqb (i + 1) (length ms))) text at ≡ n → decimal_at (get_or ms i 0) (end_of (drop (i + 1) ms)) text at ≡ n
+  one_right : (n : Option (ℕ × ℕ)) → decimal_at (get_or ms i 0) (end_byte (eqb (i + 1) (length ms))) text at ≡ n → decimal_at (get_or ms i 0) (end_of (drop (i + 1) ms)) text at ≡ n
   one_right n e = ap (λ (b : ℕ). decimal_at (get_or ms i 0) b text at) (sym (end_is ms i h)) ∙ e
 
   drop-next : drop (suc (digit_count (drop at text))) (drop at text) ≡ drop (at + digit_count (drop at text) + 1) text
@@ -425,10 +426,10 @@ module _ (ms s text values : List ℕ) (at i : ℕ) (p : Left ms s text values a
       let z : at + suc (digit_count (drop at text)) ≡ at + digit_count (drop at text) + 1 = omega arith in
       drop-drop (suc (digit_count (drop at text))) at text ∙ ap (λ (k : ℕ). drop k text) z
 
-  pub left-next : (v next : ℕ) → decimal_at (get_or ms i 0) (end_byte (eqb (i + 1) (length ms))) text at ≡ number.Value v next → Left ms s text (set values i v) next (i + 1)
+  pub left-next : (v next : ℕ) → decimal_at (get_or ms i 0) (end_byte (eqb (i + 1) (length ms))) text at ≡ Some (v, next) → Left ms s text (set values i v) next (i + 1)
   unfolding are_numbers numbers_of all
   left-next v next e =
-      let f = value_found (get_or ms i 0) (end_of (drop (i + 1) ms)) text at v next (one_right (number.Value v next) e) in
+      let f = value_found (get_or ms i 0) (end_of (drop (i + 1) ms)) text at v next (one_right (Some (v, next)) e) in
       let r : i < length values = omega (arith, p.size) in
       let d : drop i ms ≡ get_or ms i 0 ∷ drop (i + 1) ms = rw add-one (drop-cons ms i 0 h) in
       let n : drop (suc (digit_count (drop at text))) (drop at text) ≡ drop next text = drop-next ∙ ap (λ (k : ℕ). drop k text) (sym f.1.1) in
@@ -451,7 +452,7 @@ module _ (ms s text values : List ℕ) (at i : ℕ) (p : Left ms s text values a
           let o : i + 1 ≡ suc i = omega arith in
           ap (λ (k : ℕ). drop k values) o ∙ q
 
-  pub left-none : decimal_at (get_or ms i 0) (end_byte (eqb (i + 1) (length ms))) text at ≡ number.Nothing → are_numbers ms s ≡ false
+  pub left-none : decimal_at (get_or ms i 0) (end_byte (eqb (i + 1) (length ms))) text at ≡ None → are_numbers ms s ≡ false
   unfolding are_numbers
   left-none e =
       let d : drop i ms ≡ get_or ms i 0 ∷ drop (i + 1) ms = rw add-one (drop-cons ms i 0 h) in
@@ -459,7 +460,7 @@ module _ (ms s text values : List ℕ) (at i : ℕ) (p : Left ms s text values a
       ∙ all-false
       (starts_with_number (get_or ms i 0) (end_of (drop (i + 1) ms)) (drop at text) ∷ are_numbers (drop (i + 1) ms) (drop (suc (digit_count (drop at text))) (drop at text)) ∷ [])
       0
-      (none_found (get_or ms i 0) (end_of (drop (i + 1) ms)) text at (one_right number.Nothing e))
+      (none_found (get_or ms i 0) (end_of (drop (i + 1) ms)) text at (one_right None e))
 
 -- all are found: the text ends there, or goes on
 module _ (ms s text values : List ℕ) (at i : ℕ) (p : Left ms s text values at i) (h : length ms ≤ i) (l : i ≤ length ms) where
@@ -470,7 +471,7 @@ module _ (ms s text values : List ℕ) (at i : ℕ) (p : Left ms s text values a
   pub left_over : at < length text → are_numbers ms s ≡ false
   left_over g = ends ∙ ne_eqb (length (drop at text)) 0 (λ z. omega (arith, length-drop at text))
 
-  pub left-done : length text ≤ at → record { right = true; values = values } ≡ numbers_found ms s
+  pub left-done : length text ≤ at → Some values ≡ numbers_found ms s
   unfolding numbers_found numbers_of
   left-done g =
       let n : are_numbers ms s ≡ true = ends ∙ eq-eqb (length (drop at text)) 0 (omega (arith, length-drop at text)) in
@@ -481,7 +482,7 @@ module _ (ms s text values : List ℕ) (at i : ℕ) (p : Left ms s text values a
       sym (take-append-drop i values) ∙ ap₂ (λ (x y : List ℕ). x ++ y) (sym e) (p.rest ∙ ap (λ (k : ℕ). replicate k 0) (ap (λ (k : ℕ). 8 - k) z)) in
       sym (rw (n, ← v))
 
-pub not-numbers : (ms s : List ℕ) → are_numbers ms s ≡ false → no_numbers ≡ numbers_found ms s
+pub not-numbers : (ms s : List ℕ) → are_numbers ms s ≡ false → None ≡ numbers_found ms s
 unfolding numbers_found
 not-numbers ms s e = rw e
 
@@ -500,12 +501,12 @@ padded (suc k) (suc i) [] = padded k i []
 padded (suc k) zero (n ∷ ns) = refl
 padded (suc k) (suc i) (n ∷ ns) = padded (suc k) i ns
 
-pub found_below : (ms s : List ℕ) → (numbers_found ms s).right ≡ true → Below ms (numbers_found ms s).values
+pub found_below : (ms s vs : List ℕ) → numbers_found ms s ≡ Some vs → Below ms vs
 unfolding numbers_found
-found_below ms s = go (are_numbers ms s) refl
+found_below ms s vs = go (are_numbers ms s) refl
   where
-    go : (b : Bool) → are_numbers ms s ≡ b
-        → (cond b (record { right = true; values = numbers_of ms s ++ replicate (8 - length ms) 0 }) no_numbers).right ≡ true
-        → Below ms (cond b (record { right = true; values = numbers_of ms s ++ replicate (8 - length ms) 0 }) no_numbers).values
-    go true e h i = rw (padded (8 - length ms) i (numbers_of ms s)) (within-below ms (numbers_of ms s) (only-text-is-read ms s e).1 i)
-    go false e h i = false-true h
+    go : (b : Bool) → are_numbers ms s ≡ b → cond b (Some (numbers_of ms s ++ replicate (8 - length ms) 0)) None ≡ Some vs → Below ms vs
+    go true e h i =
+        let q : vs ≡ numbers_of ms s ++ replicate (8 - length ms) 0 = cc in
+        rw (q, padded (8 - length ms) i (numbers_of ms s)) (within-below ms (numbers_of ms s) (only-text-is-read ms s e).1 i)
+    go false e h i = cc

@@ -1,10 +1,7 @@
 -- 02 E1 2: numbers in a line: decimal, without leading zeros, one space between two of them and a newline after the last.
-use Rattle.std.specs.Prelude.{ℕ, suc, ◌+◌, ◌-◌, ◌≤◌, Bool, true, false, cond, List, [], ◌∷◌, ◌++◌, ◌≡◌, leb, eqb, length, take, drop, get_or, replicate}
+use Rattle.std.specs.Prelude.{ℕ, suc, ◌+◌, ◌-◌, ◌≤◌, Bool, true, false, cond, List, [], ◌∷◌, ◌++◌, ◌≡◌, Option, Some, None, leb, eqb, length, take, drop, get_or, replicate}
 use Rattle.base.specs.Tests.{all}
 use Rattle.text.specs.Decimal.{decimal, read_from}
-use Rattle.text_numbers.specs.declared.Number.{Number}
-use Rattle.text_numbers.specs.declared.Number.TheVariants as number
-use Rattle.text_numbers.specs.declared.Numbers.{Numbers}
 use Rattle.text.specs.Fields.{space, newline}
 
 abbrev pub digit : ℕ → Bool
@@ -29,14 +26,10 @@ starts_with_number most end s =
     ∷ eqb (get_or s (digit_count s) 0) end
     ∷ [])
 
-abbrev pub pick : Bool → Number → Number → Number
-pick true a b = a
-pick false a b = b
-
 -- the number at a place of a text with the place after its end, or none
-unfoldable pub decimal_at : ℕ → ℕ → List ℕ → ℕ → Number
+unfoldable pub decimal_at : ℕ → ℕ → List ℕ → ℕ → Option (ℕ × ℕ)
 decimal_at most end s at =
-    pick (starts_with_number most end (drop at s)) (number.Value (leading_value (drop at s)) (at + digit_count (drop at s) + 1)) number.Nothing
+    cond (starts_with_number most end (drop at s)) (Some (leading_value (drop at s), at + digit_count (drop at s) + 1)) None
 
 -- 02 E1 2: the byte after a number, the last one or not
 abbrev pub end_byte : Bool → ℕ
@@ -61,12 +54,9 @@ unfoldable pub numbers_of : List ℕ → List ℕ → List ℕ
 numbers_of [] s = []
 numbers_of (m ∷ ms) s = leading_value s ∷ numbers_of ms (drop (suc (digit_count s)) s)
 
--- what is answered of a text: its numbers and zeros after them, or zeros alone
-abbrev pub no_numbers : Numbers
-no_numbers = record { right = false; values = replicate 8 0 }
-
-unfoldable pub numbers_found : List ℕ → List ℕ → Numbers
-numbers_found ms s = cond (are_numbers ms s) (record { right = true; values = numbers_of ms s ++ replicate (8 - length ms) 0 }) no_numbers
+-- what is answered of a text: its numbers and zeros after them, or none
+unfoldable pub numbers_found : List ℕ → List ℕ → Option (List ℕ)
+numbers_found ms s = cond (are_numbers ms s) (Some (numbers_of ms s ++ replicate (8 - length ms) 0)) None
 
 -- as many numbers as largest ones, and none above its own
 abbrev pub Within : List ℕ → List ℕ → Type 0

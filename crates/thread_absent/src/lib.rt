@@ -11,13 +11,6 @@ ghost use Rattle.state.specs.Sound.{server_tests, absent_fields};
 use account::ENTRIES;
 use thread::Thread;
 
-// A byte as a word.
-fn long(x: u8) -> u64
-    ensures { result ≡ x }
-{
-    x as u64
-}
-
 // Whether a place from N on holds no thread; its slots are asked apart. All its bits are put together: one test for each place.
 pub fn no_thread(t: Thread, count: u8) -> bool
     ensures { result ≡ all (absent_fields t ++ (server_tests t.server ++ (eqb count 0 ∷ []))) }
@@ -26,10 +19,10 @@ pub fn no_thread(t: Thread, count: u8) -> bool
     let s = t.server;
     let bytes = p.policy | p.priority | p.low | p.max_repl | t.blocked | count;
     let words = p.budget | p.period | t.total | t.left | s.capacity | s.used | s.activation;
-    (words | (p.flag as u64) | long(bytes)) == 0
+    (words | u64::from(p.flag) | u64::from(bytes)) == 0
 }
 
-// Whether no slot from thread n on holds a number.
+// Whether no slot from thread n on holds a number. Slices, so that any of such a length can be lent.
 pub fn no_slots<'a>(n: usize, dues: &'a [u64], amounts: &'a [u64]) -> bool
     requires { (n ≤ most_threads) × (length dues.now ≡ all_slots) × (length amounts.now ≡ all_slots) }
     ensures { result ≡ all (all (zeros (drop (n * entries) dues.now)) ∷ all (zeros (drop (n * entries) amounts.now)) ∷ []) }

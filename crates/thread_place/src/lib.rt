@@ -4,6 +4,7 @@
 ghost use Rattle.std.specs.Prelude.{◌≡◌};
 ghost use Rattle.thread.specs.Thread.{place_of};
 
+use records::SCHED_SPORADIC;
 use thread::Thread;
 
 // The list in which a thread stands that has `count` replenishments pending, 0 for none.
@@ -14,7 +15,7 @@ pub fn assigned_place(t: Thread, count: u8) -> u8
         return 0;
     }
     let p = t.parameters;
-    if p.policy < 2 {
+    if p.policy < SCHED_SPORADIC {
         return p.priority;
     }
     if sporadic::at_upper(p, t.server.capacity, count) {

@@ -8,7 +8,7 @@ ghost use Rattle.rows.specs.Rows.{all_slots, pending_of};
 ghost use Rattle.state.specs.Sound.{server_tests, left_tests, present_fields, present_test};
 
 use account::ENTRIES;
-use records::THREADS;
+use records::{SCHED_RR, THREADS};
 use sporadic::Server;
 use thread::Thread;
 
@@ -32,7 +32,7 @@ fn no_server(s: Server) -> bool
 fn left_holds(t: Thread) -> bool
     ensures { result ≡ all (left_tests t) }
 {
-    if t.parameters.policy != 1 {
+    if t.parameters.policy != SCHED_RR {
         return t.left == 0;
     }
     if t.left < 1 {
@@ -45,11 +45,10 @@ fn left_holds(t: Thread) -> bool
 fn present_fields(t: Thread) -> bool
     ensures { result ≡ all (present_fields t) }
 {
-    let p = t.parameters;
-    if !records::in_range(p, MOST_REPL) {
+    if !records::in_range(t.parameters, MOST_REPL) {
         return false;
     }
-    if p.flag != 0 {
+    if t.parameters.flag != 0 {
         return false;
     }
     if 1 < t.blocked {
@@ -66,7 +65,7 @@ fn clear_slots<'a>(from: usize, end: usize, dues: &'a [u64], amounts: &'a [u64])
     slots_clear::clear(&dues[from..end], &amounts[from..end])
 }
 
-// Whether thread i, below N, is sound.
+// Whether thread i, below N, is sound. Slices, so that any of such a length can be lent.
 pub fn thread_holds<'a>(
     start: u64,
     time: u64,
@@ -82,14 +81,12 @@ pub fn thread_holds<'a>(
     if !present_fields(t) {
         return false;
     }
-    let p = t.parameters;
-    let s = t.server;
     let from = i * ENTRIES;
     let end = from + ENTRIES;
-    if 1 < p.policy {
+    if SCHED_RR < t.parameters.policy {
         return account_lent::sound_lent(
-            p,
-            s,
+            t.parameters,
+            t.server,
             counts[i],
             &dues[from..end],
             &amounts[from..end],
@@ -98,7 +95,7 @@ pub fn thread_holds<'a>(
             time,
         );
     }
-    if !no_server(s) {
+    if !no_server(t.server) {
         return false;
     }
     if counts[i] != 0 {

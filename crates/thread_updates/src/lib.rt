@@ -11,32 +11,31 @@ use thread::Thread;
 pub fn with_blocked(t: Thread, blocked: u8) -> Thread
     ensures { result ≡ with_blocked blocked t }
 {
-    let p = t.parameters;
-    let v = t.server;
-    thread::thread_of(p, blocked, t.total, t.left, v)
+    Thread { blocked, ..t }
 }
 
 // A thread with another quantum left.
 pub fn with_left(t: Thread, left: u64) -> Thread
     ensures { result ≡ with_left left t }
 {
-    let p = t.parameters;
-    let v = t.server;
-    thread::thread_of(p, t.blocked, t.total, left, v)
+    Thread { left, ..t }
 }
 
 // A thread with another server.
 pub fn with_server(t: Thread, v: Server) -> Thread
     ensures { result ≡ with_server v t }
 {
-    let p = t.parameters;
-    thread::thread_of(p, t.blocked, t.total, t.left, v)
+    Thread { server: v, ..t }
 }
 
 // A thread with another run time, quantum left and server.
 pub fn with_run(t: Thread, total: u64, left: u64, v: Server) -> Thread
     ensures { result ≡ with_run total left v t }
 {
-    let p = t.parameters;
-    thread::thread_of(p, t.blocked, total, left, v)
+    Thread {
+        total,
+        left,
+        server: v,
+        ..t
+    }
 }

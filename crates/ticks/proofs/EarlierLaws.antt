@@ -1,10 +1,7 @@
 -- The earlier of two moments, by cases.
 use Prim.Native.Nat.{ℕ, zero, suc, ◌≤◌, ◌<◌}
-use mathlib.Core.Bool.{Bool, true, false}
-use mathlib.Core.Path.{◌≡◌, refl, sym}
-use lib.Dec.{leb, eqb}
+use mathlib.Core.Path.{◌≡◌, refl}
 use native.Mathlib.Omega.{arith}
-use borrow.Author.Tests.{eq-eqb, ne_eqb, leb-true, leb-false}
 use Rattle.ticks.specs.Running.{earlier}
 
 pub earlier-none : (a b : ℕ) → b ≡ 0 → earlier a b ≡ a
@@ -21,14 +18,6 @@ pub earlier-second : (a b : ℕ) → 0 < b → b ≤ a → earlier a b ≡ b
 earlier-second zero b p l = refl
 earlier-second (suc a) zero p l = absurd (omega arith)
 earlier-second (suc a) (suc b) p l = omega arith
-
--- whether the first is it
-pub earlier-is-first : (a b : ℕ) → 0 < a → 0 < b → leb a b ≡ eqb (earlier a b) a
-earlier-is-first a b p q = go (leb a b) refl
-  where
-    go : (x : Bool) → leb a b ≡ x → x ≡ eqb (earlier a b) a
-    go true e = sym (eq-eqb (earlier a b) a (earlier-first a b p (leb-true a b e)))
-    go false e = let l = leb-false a b e in sym (ne_eqb (earlier a b) a (λ d. omega (arith, earlier-second a b q (omega arith))))
 
 -- it is one of the two, and the other is none or no earlier
 pub earlier-other : (a b : ℕ) → (a ≡ earlier a b → ⊥) → (earlier a b ≡ b) × (0 < a → b < a)

@@ -4,6 +4,7 @@
 ghost use Rattle.std.specs.Prelude.{◌≡◌, false, cond, ◌+◌, ◌<◌, ◌≤◌, ◌^◌, eqb};
 ghost use Rattle.ticks.specs.Running.{ran};
 
+use records::{SCHED_FIFO, SCHED_RR};
 use thread::Thread;
 
 // The ticks that a sporadic thread is charged, of k in list p: all at its upper priority, at low none.
@@ -23,17 +24,15 @@ fn ran_thread(p: u8, k: u64, t: Thread) -> Thread
         × (1 < t.parameters.policy → p ≡ t.parameters.priority → k ≤ t.server.capacity) }
     ensures { result ≡ ran p k t }
 {
-    let q = t.parameters;
-    let v = t.server;
     let total = t.total + k;
-    if q.policy == 0 {
-        return thread_updates::with_run(t, total, t.left, v);
+    match t.parameters.policy {
+        SCHED_FIFO => thread_updates::with_run(t, total, t.left, t.server),
+        SCHED_RR => thread_updates::with_run(t, total, t.left - k, t.server),
+        _ => {
+            let server = sporadic::charge(t.server, charged_ticks(p, t.parameters.priority, k));
+            thread_updates::with_run(t, total, t.left, server)
+        }
     }
-    if q.policy == 1 {
-        return thread_updates::with_run(t, total, t.left - k, v);
-    }
-    let w = sporadic::charge(v, charged_ticks(p, q.priority, k));
-    thread_updates::with_run(t, total, t.left, w)
 }
 
 // The same, unchanged where p is 0 because nothing runs.

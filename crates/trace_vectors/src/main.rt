@@ -1,71 +1,48 @@
 // Runs the cases of the trace file: files that are made and damaged here. Stored files are run by `replay_vectors`.
+// A case is a function of its own: its title and its numbers.
 #![tactic(auto)]
 
-use records::{Event, Header, Parameters};
+use records::{Event, Header, Parameters, SCHED_SPORADIC};
+use trace_records::NO_EVENT;
+use vector_lines::{labelled, line, title};
 
-const STDOUT_FILENO: i32 = 1;
+const USED: Parameters = Parameters {
+    policy: SCHED_SPORADIC,
+    priority: 20,
+    low: 5,
+    max_repl: 2,
+    flag: 1,
+    budget: 10,
+    period: 40,
+};
 
-fn wide(b: u8) -> u64 {
-    b as u64
-}
-
-fn place(b: u8) -> usize {
-    b as usize
-}
-
-fn line(label: &[u8], number: u64) {
-    io::write_all(STDOUT_FILENO, label);
-    io::write_all(STDOUT_FILENO, b" ");
-    io::print_decimal(STDOUT_FILENO, number);
-    io::write_all(STDOUT_FILENO, b"\n");
-}
+const HAPPENED: Event = Event {
+    time: 4,
+    kind: 1,
+    ..NO_EVENT
+};
 
 // The status of a write of n threads and `count` events into the first `room` bytes of a buffer.
 fn made(n: u32, count: usize, out: &mut [u8], room: usize) -> u64 {
-    let used = Parameters {
-        policy: 2,
-        priority: 20,
-        low: 5,
-        max_repl: 2,
-        flag: 1,
-        budget: 10,
-        period: 40,
-    };
-    let unused = Parameters {
-        policy: 0,
-        priority: 0,
-        low: 0,
-        max_repl: 0,
-        flag: 0,
-        budget: 0,
-        period: 0,
-    };
-    let e = Event {
-        time: 4,
-        kind: 1,
-        thread: 0,
-        parameters: unused,
-    };
-    if out.len() < room {
+    let Some(out) = out.get_mut(..room) else {
         return 255;
-    }
+    };
     let header = Header { n, start: 7 };
-    let w = trace_write::write(header, [used; 32], count, [e; 1500], &mut out[..room]);
-    wide(w.status)
+    let w = trace_write::write(header, [USED; 32], count, [HAPPENED; 1500], out);
+    u64::from(w.status)
 }
 
 // The status of a read of a buffer's first `len` bytes.
 fn status(file: &[u8], len: usize) -> u64 {
-    if file.len() < len {
+    let Some(file) = file.get(..len) else {
         return 255;
-    }
-    let c = trace_read::read(&file[..len]);
-    wide(c.status)
+    };
+    u64::from(trace_read::read(file).status)
 }
 
 fn set(file: &mut [u8], at: usize, b: u8) {
-    if at < file.len() {
-        file[at] = b;
+    if let Some(place) = file.get_mut(at) {
+        *place = b;
     }
 }
 
@@ -76,24 +53,16 @@ fn damaged(file: &mut [u8], len: usize, at: usize, b: u8) {
     }
     let old = file[at];
     file[at] = b;
-    io::write_all(STDOUT_FILENO, b"byte ");
-    io::print_decimal(STDOUT_FILENO, at as u64);
-    io::write_all(STDOUT_FILENO, b" is ");
-    io::print_decimal(STDOUT_FILENO, wide(b));
-    io::write_all(STDOUT_FILENO, b":");
-    line(b"", status(file, len));
+    labelled(b"byte ", at as u64);
+    labelled(b" is ", u64::from(b));
+    line(b":", status(file, len));
     file[at] = old;
 }
 
 // The same for a value at each of some places, one after another.
 fn each_damaged(file: &mut [u8], len: usize, places: &[u8], values: &[u8]) {
-    let mut i = 0;
-    while i < places.len() {
-        if values.len() <= i {
-            return;
-        }
-        damaged(file, len, place(places[i]), values[i]);
-        i += 1;
+    for (at, b) in places.iter().zip(values) {
+        damaged(file, len, usize::from(*at), *b);
     }
 }
 
@@ -172,7 +141,7 @@ fn rooms() {
     line(b"room for 199 of 200 bytes", made(2, 3, &mut file, 199));
     let cleared = io::large_buffer();
     if check::same(&file, &cleared) {
-        io::write_all(STDOUT_FILENO, b"unchanged\n");
+        title(b"unchanged");
     }
     line(b"room for 200", made(2, 3, &mut file, 200));
     line(b"as written", status(&file, 200));

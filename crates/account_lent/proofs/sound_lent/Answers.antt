@@ -1,7 +1,6 @@
 -- `account_lent::sound_lent` meets its contract: the numbers, the entries, and then the slots that are not in use.
-use borrow.Author.Rules.{rules}
 use Prim.Native.Nat.{ℕ, ◌+◌, ◌-◌, ◌≤◌}
-use mathlib.Core.Bool.{Bool, true, false, cond}
+use mathlib.Core.Bool.{Bool, true, false}
 use mathlib.Core.Path.{◌≡◌, refl, sym, ap, ap₂, ◌∙◌}
 use mathlib.Core.List.{List, [], ◌∷◌}
 use lib.ListN.{length, take, drop, length-take, length-drop}
@@ -9,7 +8,7 @@ use lib.Seq.{take_all}
 use native.Mathlib.Omega.{arith}
 use borrow.Author.Tests.{eq-eqb}
 use Rattle.base.specs.Tests.{all, zeros}
-use Rattle.base.proofs.TestLaws.{tests, all-false, all_true, false-true, cond-elim}
+use Rattle.base.proofs.TestLaws.{tests, all-false, all_true, false-true}
 use Rattle.records.specs.declared.Parameters.{Parameters}
 use Rattle.account.specs.declared.Account.{Account}
 use Rattle.account.specs.Account.{pending_dues, pending_amounts}
@@ -90,20 +89,20 @@ pub slice_bounds-entries_hold-end : goal.slice_bounds-entries_hold-end
 slice_bounds-entries_hold-end c =
     let w = c in
     let a = w.args in
-    omega (arith, length-take w.wide-n.result a.amounts.now, (numbered a.start a.time a.blocked a.p (account_of a.s a.count a.dues.now a.amounts.now) _ _ _ c.runs_upper-up.ensures c.numbers_hold.ensures c.if-not-numbers_hold.false c.wide-n.ensures).few)
+    omega (arith, length-take w.from-n.result a.amounts.now, (numbered a.start a.time a.blocked a.p (account_of a.s a.count a.dues.now a.amounts.now) _ _ _ c.runs_upper-up.ensures c.numbers_hold.ensures c.if-not-numbers_hold.false c.from-n.ensures).few)
 
 pub slice_bounds-entries_hold-end-2 : goal.slice_bounds-entries_hold-end-2
 slice_bounds-entries_hold-end-2 c =
     let w = c in
     let a = w.args in
-    omega (arith, length-take w.wide-n.result a.dues.now, (numbered a.start a.time a.blocked a.p (account_of a.s a.count a.dues.now a.amounts.now) _ _ _ c.runs_upper-up.ensures c.numbers_hold.ensures c.if-not-numbers_hold.false c.wide-n.ensures).few)
+    omega (arith, length-take w.from-n.result a.dues.now, (numbered a.start a.time a.blocked a.p (account_of a.s a.count a.dues.now a.amounts.now) _ _ _ c.runs_upper-up.ensures c.numbers_hold.ensures c.if-not-numbers_hold.false c.from-n.ensures).few)
 
 pub entries_hold-requires : goal.entries_hold-requires
 entries_hold-requires c =
     let w = c in
     let a = w.args in
-    let n = w.wide-n.result in
-    omega (arith, length-take n a.amounts.now, length-take n a.dues.now, (numbered a.start a.time a.blocked a.p (account_of a.s a.count a.dues.now a.amounts.now) _ _ _ c.runs_upper-up.ensures c.numbers_hold.ensures c.if-not-numbers_hold.false c.wide-n.ensures).few)
+    let n = w.from-n.result in
+    omega (arith, length-take n a.amounts.now, length-take n a.dues.now, (numbered a.start a.time a.blocked a.p (account_of a.s a.count a.dues.now a.amounts.now) _ _ _ c.runs_upper-up.ensures c.numbers_hold.ensures c.if-not-numbers_hold.false c.from-n.ensures).few)
 
 pub returns-then-not-entries_hold : goal.returns-then-not-entries_hold
 unfolding sound_at
@@ -114,27 +113,27 @@ returns-then-not-entries_hold c =
     let a = st.args in
     sym
     (entries-fail a.start a.time a.blocked a.p (account_of a.s a.count a.dues.now a.amounts.now)
-    (sym (entries a.start a.time a.blocked a.p (account_of a.s a.count a.dues.now a.amounts.now) _ u.runs_upper-up.ensures _ w.wide-n.ensures _ c.entries_hold.ensures) ∙ c.if-not-entries_hold.true))
+    (sym (entries a.start a.time a.blocked a.p (account_of a.s a.count a.dues.now a.amounts.now) _ u.runs_upper-up.ensures _ w.from-n.ensures _ c.entries_hold.ensures) ∙ c.if-not-entries_hold.true))
 
 pub slice_bounds-clear-count : goal.slice_bounds-clear-count
 slice_bounds-clear-count c =
     let a = c.args in
-    omega (arith, (numbered a.start a.time a.blocked a.p (account_of a.s a.count a.dues.now a.amounts.now) _ _ _ c.runs_upper-up.ensures c.numbers_hold.ensures c.if-not-numbers_hold.false c.wide-n.ensures).few)
+    omega (arith, (numbered a.start a.time a.blocked a.p (account_of a.s a.count a.dues.now a.amounts.now) _ _ _ c.runs_upper-up.ensures c.numbers_hold.ensures c.if-not-numbers_hold.false c.from-n.ensures).few)
 
 pub slice_bounds-clear-start : goal.slice_bounds-clear-start
 slice_bounds-clear-start c =
     let a = c.args in
-    omega (arith, (numbered a.start a.time a.blocked a.p (account_of a.s a.count a.dues.now a.amounts.now) _ _ _ c.runs_upper-up.ensures c.numbers_hold.ensures c.if-not-numbers_hold.false c.wide-n.ensures).few)
+    omega (arith, (numbered a.start a.time a.blocked a.p (account_of a.s a.count a.dues.now a.amounts.now) _ _ _ c.runs_upper-up.ensures c.numbers_hold.ensures c.if-not-numbers_hold.false c.from-n.ensures).few)
 
 pub slice_bounds-clear-count-2 : goal.slice_bounds-clear-count-2
 slice_bounds-clear-count-2 c =
     let a = c.args in
-    omega (arith, (numbered a.start a.time a.blocked a.p (account_of a.s a.count a.dues.now a.amounts.now) _ _ _ c.runs_upper-up.ensures c.numbers_hold.ensures c.if-not-numbers_hold.false c.wide-n.ensures).few)
+    omega (arith, (numbered a.start a.time a.blocked a.p (account_of a.s a.count a.dues.now a.amounts.now) _ _ _ c.runs_upper-up.ensures c.numbers_hold.ensures c.if-not-numbers_hold.false c.from-n.ensures).few)
 
 pub slice_bounds-clear-start-2 : goal.slice_bounds-clear-start-2
 slice_bounds-clear-start-2 c =
     let a = c.args in
-    omega (arith, (numbered a.start a.time a.blocked a.p (account_of a.s a.count a.dues.now a.amounts.now) _ _ _ c.runs_upper-up.ensures c.numbers_hold.ensures c.if-not-numbers_hold.false c.wide-n.ensures).few)
+    omega (arith, (numbered a.start a.time a.blocked a.p (account_of a.s a.count a.dues.now a.amounts.now) _ _ _ c.runs_upper-up.ensures c.numbers_hold.ensures c.if-not-numbers_hold.false c.from-n.ensures).few)
 
 pub returns : goal.returns
 unfolding sound_at
@@ -145,7 +144,7 @@ returns c =
     let st = u in
     let a = st.args in
     let h = all_true _
-    (sym (entries a.start a.time a.blocked a.p (account_of a.s a.count a.dues.now a.amounts.now) _ u.runs_upper-up.ensures _ w.wide-n.ensures _ i.entries_hold.ensures) ∙ i.if-not-entries_hold.false) in
+    (sym (entries a.start a.time a.blocked a.p (account_of a.s a.count a.dues.now a.amounts.now) _ u.runs_upper-up.ensures _ w.from-n.ensures _ i.entries_hold.ensures) ∙ i.if-not-entries_hold.false) in
     c.clear.ensures
-    ∙ ap₂ (λ (x y : Bool). all (x ∷ y ∷ [])) (long _ _ a.dues.now w.wide-n.ensures (omega arith)) (long _ _ a.amounts.now w.wide-n.ensures (omega arith))
-    ∙ last-two _ _ _ _ _ (numbered a.start a.time a.blocked a.p (account_of a.s a.count a.dues.now a.amounts.now) _ _ _ c.runs_upper-up.ensures c.numbers_hold.ensures c.if-not-numbers_hold.false c.wide-n.ensures).first h.0 h.1.0
+    ∙ ap₂ (λ (x y : Bool). all (x ∷ y ∷ [])) (long _ _ a.dues.now w.from-n.ensures (omega arith)) (long _ _ a.amounts.now w.from-n.ensures (omega arith))
+    ∙ last-two _ _ _ _ _ (numbered a.start a.time a.blocked a.p (account_of a.s a.count a.dues.now a.amounts.now) _ _ _ c.runs_upper-up.ensures c.numbers_hold.ensures c.if-not-numbers_hold.false c.from-n.ensures).first h.0 h.1.0

@@ -1,7 +1,6 @@
 -- `bound::most_of` meets its contract.
 use Prim.Native.Nat.{ℕ}
 use mathlib.Core.Path.{sym, ap, ◌∙◌}
-use borrow.Author.Rules.{rules}
 use Rattle.base.proofs.TestLaws.{cond-true, cond-false}
 use Rattle.bound.specs.Most.{most_of}
 use Rattle.bound.proofs.most_of.Goals as goal
@@ -17,4 +16,6 @@ returns-then-sporadic_thread c =
 
 pub returns : goal.returns
 unfolding most_of
-returns c = sym (cond-false _ _ _ (sym c.sporadic_thread.ensures ∙ c.if-sporadic_thread.false))
+returns c =
+    ap (λ (n : ℕ). record { status = n; ticks = 0 }) c.from.ensures
+    ∙ sym (cond-false _ _ _ (sym c.sporadic_thread.ensures ∙ c.if-sporadic_thread.false))

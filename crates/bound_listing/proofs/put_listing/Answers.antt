@@ -1,6 +1,5 @@
 -- `bound_listing::put_listing` meets its contract: the line of the refusal, or the lines of the table.
 use native.Mathlib.Omega.{arith}
-use borrow.Author.Rules.{rules}
 use Rattle.bound_listing.proofs.LineLaws.{refusal-put, lines-put}
 use Rattle.bound_listing.proofs.put_listing.Goals as goal
 

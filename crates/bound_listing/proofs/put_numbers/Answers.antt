@@ -1,13 +1,9 @@
 -- `bound_listing::put_numbers` meets its contract: its word and three fields.
-use Prim.Native.Nat.{◌+◌, ◌≤◌}
-use mathlib.Core.List.{◌++◌}
-use lib.ListN.{length}
 use Rattle.text.specs.Fields.{field, space, newline}
 use Rattle.text.proofs.FieldLaws.{within, ended}
 use Rattle.text.proofs.PlacedLaws.{room-b, room-c, room-d, all-four}
 use Rattle.listing.specs.Lines.{thread_word}
 use Rattle.bound_listing.proofs.LineLaws.{numbers-length}
-use borrow.Author.Rules.{rules}
 use Rattle.bound_listing.proofs.put_numbers.Goals as goal
 
 pub put_field-second-requires : goal.put_field-second-requires

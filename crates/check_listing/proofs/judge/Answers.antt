@@ -9,7 +9,7 @@ numbered : (v w : Verdict) (x : Checked) → x ≡ checked_of v → v ≡ w → 
 numbered v w x e f = ap (λ (y : Checked). y.verdict) (e ∙ ap checked_of f)
 
 pub returns-then-checked-eq1 : goal.returns-then-checked-eq1
-returns-then-checked-eq1 g c h = numbered _ _ _ c.checked_of-checked.ensures c.verdict_of-v.ensures
+returns-then-checked-eq1 g c = numbered _ _ _ c.checked_of-checked.ensures c.verdict_of-v.ensures
 
 pub returns-else-checked-eq1 : goal.returns-else-checked-eq1
-returns-else-checked-eq1 g c h = numbered _ _ _ c.checked_of-checked.ensures c.verdict_of-v.ensures
+returns-else-checked-eq1 g c = numbered _ _ _ c.checked_of-checked.ensures c.verdict_of-v.ensures

@@ -1,5 +1,5 @@
 -- `counter::event` meets its contract.
-use Rattle.std.proofs.Common.{◌∙◌, rules}
+use Rattle.std.proofs.Common.{◌∙◌}
 use Rattle.counter.proofs.CounterLaws.{guarded-same}
 use Rattle.counter.proofs.event.Goals as goal
 

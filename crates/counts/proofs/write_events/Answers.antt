@@ -2,7 +2,6 @@
 use Rattle.std.proofs.Common.{ℕ, suc, ◌+◌, ◌-◌, ◌≤◌, ◌≡◌, List, length, refl, sym, ap, ◌∙◌}
 use native.Mathlib.Omega.{arith}
 use borrow.Author.Tests.{not-true, not-false}
-use Rattle.base.proofs.TestLaws.{false-true}
 use Rattle.trace_records.specs.Layout.{most_events}
 use Rattle.state.specs.Updates.{whole}
 use Rattle.replay_steps.proofs.FileLaws.{none_left}
@@ -14,7 +13,6 @@ use Rattle.counts.proofs.write_events.Goals as goal
 pub loop-i-init : goal.loop-i-init
 loop-i-init g c =
     let a = c.args in (
-      omega arith,
       c.requires.0,
       no-sums,
       refl,
@@ -25,7 +23,7 @@ loop-i-init g c =
 pub count_at-step-requires : goal.count_at-step-requires
 count_at-step-requires g c =
     let i = c.loop-i.invariant in
-    (i.1, omega arith, i.2, omega (arith, i.3, c.requires.1))
+    (i.0, omega arith, i.1, omega (arith, i.2, c.requires.1))
 
 pub returns-then-not-step : goal.returns-then-not-step
 returns-then-not-step g c =
@@ -34,36 +32,28 @@ returns-then-not-step g c =
     let p = c.count_at-step in
     let s = whole w.s w.dues w.amounts in
     let z = ends-here w.i s c.args.file.now w.offset (most_events - w.i) (counted_with p.result p.new.dues p.new.amounts) p.ensures.amounts_after (not-true _ c.if-not-step.true) in
-    record {
-      amounts_after = p.ensures.amounts_after_2.0;
-      sums_after = λ m. (p.ensures.sums_after ∙ sums_same w.sums z ∙ sums-all w.sums i.4 z.sums, z.stays ∙ sym z.state ∙ i.5);
-    }
+    (p.ensures.amounts_after_2.0, p.ensures.sums_after ∙ sums_same w.sums z ∙ sums-all w.sums i.3 z.sums, z.stays ∙ sym z.state ∙ i.4)
 
 pub write-requires : goal.write-requires
 write-requires g c =
     let p = c.count_at-step in
-    omega (arith, p.ensures.amounts_after_2.2, p.auto.out, c.loop-i.invariant.3, c.requires.1)
-
-pub returns-then-not-write : goal.returns-then-not-write
-returns-then-not-write g c = record { amounts_after = c.count_at-step.ensures.amounts_after_2.0; sums_after = λ m. false-true m }
+    omega (arith, p.ensures.amounts_after_2.2, p.auto.out, c.loop-i.invariant.2, c.requires.1)
 
 pub loop-i-preserved : goal.loop-i-preserved
 loop-i-preserved g c =
     let w = c.loop-i in
     let i = w.invariant in
     let p = c.count_at-step in
-    let l = c.loop-i-test.true in
     let x = counted_with p.result p.new.dues p.new.amounts in
-    let k : most_events - w.i ≡ suc (most_events - (w.i + 1)) = omega (arith, l) in
+    let k : most_events - w.i ≡ suc (most_events - (w.i + 1)) = omega arith in
     let h = leads-on w.i (whole w.s w.dues w.amounts) c.args.file.now w.offset (most_events - (w.i + 1)) x p.ensures.amounts_after (not-false _ c.if-not-step.false) in (
-      omega (arith, l),
       p.ensures.amounts_after_2.0,
       p.ensures.amounts_after_2.1,
-      p.auto.out ∙ i.3,
+      p.auto.out ∙ i.2,
       ap (λ (xs : List ℕ). added xs (sums_from x.state c.args.file.now x.offset (most_events - (w.i + 1)))) p.ensures.sums_after
-          ∙ sums-carry w.sums i.2.all h
-          ∙ rw k at i.4,
-      sym h.state ∙ rw k at i.5,
+          ∙ sums-carry w.sums i.1.all h
+          ∙ rw k at i.3,
+      sym h.state ∙ rw k at i.4,
     )
 
 pub returns : goal.returns
@@ -72,10 +62,4 @@ returns g c =
     let i = w.invariant in
     let s = whole w.s w.dues w.amounts in
     let k : most_events - w.i ≡ 0 = omega arith in
-    record {
-      amounts_after = i.1;
-      sums_after = λ m. (
-        sums-all w.sums (rw k at i.4) (no_steps s c.args.file.now w.offset),
-        sym (none_left s c.args.file.now w.offset).state ∙ rw k at i.5,
-      );
-    }
+    (i.0, sums-all w.sums (rw k at i.3) (no_steps s c.args.file.now w.offset), sym (none_left s c.args.file.now w.offset).state ∙ rw k at i.4)

@@ -1,27 +1,26 @@
--- `counts_event::is_quiet` meets its contract: each test that fails makes the list false.
-use mathlib.Core.Path.{sym}
-use borrow.Author.Rules.{rules}
-use borrow.Author.Tests.{ne_eqb}
-use Rattle.base.proofs.TestLaws.{tests, all-false, true-all}
+-- `counts_event::is_quiet` meets its contract: the four numbers together have no bit exactly where each is 0.
+use Prim.Native.Nat.{ℕ, ◌+◌, ◌*◌}
+use mathlib.Core.Bool.{Bool, true, false, cond}
+use mathlib.Core.Path.{◌≡◌, refl}
+use lib.Bits.{bit_or}
+use lib.Dec.{eqb}
+use lib.ListN.{get_or}
+use Rattle.base.specs.Tests.{all}
+use Rattle.base.proofs.ZeroLaws.{or-none}
 use Rattle.counts_text.specs.Lines.{quiet}
 use Rattle.counts_event.proofs.is_quiet.Goals as goal
 
-pub returns-then-xs-k-ne0 : goal.returns-then-xs-k-ne0
-unfolding quiet
-returns-then-xs-k-ne0 c = sym (all-false _ 0 (ne_eqb _ _ c.if-xs-k-ne0.true))
-
-pub returns-then-xs-k-ne0-2 : goal.returns-then-xs-k-ne0-2
-unfolding quiet
-returns-then-xs-k-ne0-2 c = sym (all-false _ 1 (ne_eqb _ _ c.if-xs-k-ne0-2.true))
-
-pub returns-then-xs-k-ne0-3 : goal.returns-then-xs-k-ne0-3
-unfolding quiet
-returns-then-xs-k-ne0-3 c = sym (all-false _ 2 (ne_eqb _ _ c.if-xs-k-ne0-3.true))
-
-pub returns-then-xs-k-ne0-4 : goal.returns-then-xs-k-ne0-4
-unfolding quiet
-returns-then-xs-k-ne0-4 c = sym (all-false _ 3 (ne_eqb _ _ c.if-xs-k-ne0-4.true))
+four : (a b c d : Bool) → cond (cond (cond a b false) c false) d false ≡ cond a (cond b (cond c (cond d true false) false) false) false
+four true true true true = refl
+four true true true false = refl
+four true true false d = refl
+four true false c d = refl
+four false b c d = refl
 
 pub returns : goal.returns
-unfolding quiet
-returns c = sym (true-all _ (omega tests))
+unfolding quiet all
+returns c =
+    let k = c.args.i * 4 in
+    let n : ℕ → ℕ = λ j. get_or c.args.xs.now j 0 in
+    let two = bit_or (n k) (n (k + 1)) in
+    rw (or-none (bit_or two (n (k + 2))) (n (k + 3)), or-none two (n (k + 2)), or-none (n k) (n (k + 1))) (four (eqb (n k) 0) (eqb (n (k + 1)) 0) (eqb (n (k + 2)) 0) (eqb (n (k + 3)) 0))

@@ -1,7 +1,6 @@
 -- `counts_event::put_count` meets its contract: no line, or the thread's.
 use mathlib.Core.Path.{sym, ◌∙◌}
 use native.Mathlib.Omega.{arith}
-use borrow.Author.Rules.{rules}
 use Rattle.text.proofs.PlacedLaws.{nothing}
 use Rattle.counts_text.proofs.LineLaws.{quiet_put, count-put}
 use Rattle.counts_event.proofs.put_count.Goals as goal

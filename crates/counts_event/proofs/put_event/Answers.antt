@@ -1,12 +1,7 @@
 -- `counts_event::put_event` meets its contract: the lines so far are the event's and those of the first t threads.
-use Prim.Native.Nat.{◌+◌, ◌-◌, ◌*◌, ◌≤◌}
 use mathlib.Core.Path.{◌≡◌, refl, ◌∙◌}
 use native.Mathlib.Omega.{arith}
-use lib.ListN.{length}
-use Rattle.text.specs.Placed.{Put}
-use Rattle.trace.specs.Lists.{joined}
 use Rattle.counts_text.specs.Lines.{count_line}
-use Rattle.counts_text.specs.Room.{thread_line_most}
 use Rattle.counts_text.proofs.LineLaws.{event-put, lines_none, lines_next}
 use Rattle.counts_event.proofs.put_event.Goals as goal
 

@@ -1,5 +1,4 @@
 -- `counts_event::put_event_line` meets its contract: its word and its two fields.
-use borrow.Author.Rules.{rules}
 use Rattle.text.specs.Fields.{space, newline, field}
 use Rattle.text.proofs.FieldLaws.{within, ended}
 use Rattle.counts_text.specs.Lines.{event_word, event_line}
@@ -18,12 +17,12 @@ unfolding event_line
 put_field-requires c =
     let a = c.args in
     let h = within 0 (event-length a.i c.requires.0 c.ranges.status) c.requires.1 in
-    room-c a.out.now 0 event_word (field a.i space) (field a.status newline) h c.put_word-here.ensures c.put_field-there.ensures
+    rw c.from.ensures (room-c a.out.now 0 event_word (field a.i space) (field a.status newline) h c.put_word-here.ensures c.put_field-there.ensures)
 
 pub returns : goal.returns
 unfolding event_line
 returns c =
     let a = c.args in
     let l = event-length a.i c.requires.0 c.ranges.status in
-    let e = ended l (all_three a.out.now 0 event_word (field a.i space) (field a.status newline) (within 0 l c.requires.1) c.put_word-here.ensures c.put_field-there.ensures c.put_field.ensures) in
+    let e = ended l (all_three a.out.now 0 event_word (field a.i space) (field a.status newline) (within 0 l c.requires.1) c.put_word-here.ensures c.put_field-there.ensures (rw c.from.ensures at c.put_field.ensures)) in
     record { put = e.0; upper_bound = e.1 }

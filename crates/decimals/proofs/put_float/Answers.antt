@@ -1,8 +1,7 @@
 -- `decimals::put_float` meets its contract: it is 0 where its bits are, and else its decimals are put.
-use mathlib.Core.Path.{sym, ap, ◌∙◌}
+use mathlib.Core.Path.{ap}
 use native.Mathlib.Omega.{arith}
 use lib.ListN.{length}
-use borrow.Author.Rules.{rules}
 use Rattle.text.proofs.DecimalLaws.{small}
 use Rattle.decimals.proofs.TextLaws.{within-most, none-text, unit-text, shown-number, no_bits, some_bits}
 use Rattle.decimals.proofs.put_float.Goals as goal

@@ -1,6 +1,5 @@
 -- `decimals::rounded` meets its contract: twice the rest is compared with the unit by its limbs.
 use native.Mathlib.Omega.{arith}
-use borrow.Author.Rules.{rules}
 use Rattle.decimals.proofs.RoundLaws.{less-than-half, more-than-half, just-half}
 use Rattle.decimals.proofs.rounded.Goals as goal
 

@@ -1,11 +1,10 @@
 -- `decimals::spelt` meets its contract: the digits so far and what is left are the fraction.
-use Prim.Native.Nat.{ℕ, ◌+◌, ◌-◌, ◌*◌, ◌/◌, ◌%◌, compare}
-use mathlib.Core.Path.{◌≡◌, refl, sym, ap, ◌∙◌}
+use Prim.Native.Nat.{ℕ, ◌+◌, ◌*◌, ◌/◌, ◌%◌, compare}
+use mathlib.Core.Path.{◌≡◌, sym, ap, ◌∙◌}
 use native.Mathlib.Omega.{arith}
-use borrow.Author.Rules.{rules}
-use Rattle.decimals.specs.Decimals.{most_places, decimals_of}
+use Rattle.decimals.specs.Decimals.{decimals_of}
 use Rattle.decimals.specs.Private.{limb, unit}
-use Rattle.decimals.proofs.SpellLaws.{Spelling, spelling-none, spelling-next, spelling-is, digits-fit, both, rounded-most}
+use Rattle.decimals.proofs.SpellLaws.{spelling-none, spelling-next, spelling-is, digits-fit, both, rounded-most}
 use Rattle.decimals.proofs.spelt.Goals as goal
 
 pub loop-down-init : goal.loop-down-init

@@ -1,11 +1,8 @@
 -- `decimals::spelt` meets its contract: the digits so far and what is left are the fraction.
-use Prim.Native.Nat.{ℕ, ◌+◌, ◌-◌, ◌*◌, ◌/◌, ◌%◌, compare}
-use mathlib.Core.Path.{◌≡◌, refl, sym, ap, ◌∙◌}
-use native.Mathlib.Omega.{arith}
-use borrow.Author.Rules.{rules}
-use Rattle.decimals.specs.Decimals.{most_places, decimals_of}
+use Prim.Native.Nat.{◌+◌, ◌-◌, ◌*◌}
+use Rattle.decimals.specs.Decimals.{most_places}
 use Rattle.decimals.specs.Private.{limb, unit}
-use Rattle.decimals.proofs.SpellLaws.{Spelling, spelling-none, spelling-next, spelling-is, digits-fit, both, rounded-most}
+use Rattle.decimals.proofs.SpellLaws.{Spelling}
 use Rattle.decimals.proofs.spelt.Given as goal
 
 abbrev pub invariant-loop-down : goal.invariant-loop-down

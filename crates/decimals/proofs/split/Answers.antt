@@ -1,7 +1,5 @@
 -- `decimals::split` meets its contract: the bits give the significand and its shift, and these the limbs.
-use Prim.Native.Nat.{◌≤◌}
 use native.Mathlib.Omega.{arith}
-use borrow.Author.Rules.{rules}
 use lib.Ieee.{binary64, to_bits}
 use Rattle.decimals.proofs.BitsLaws.{number, fields, shift-most, field-most, split-is}
 use Rattle.decimals.proofs.split.Goals as goal

@@ -1,14 +1,12 @@
 -- `due_search::next_in_word` meets its contract: `best` is what the definition gives for the threads that the word no longer names, and
 -- where the search ends early none of the others is sooner.
-use Prim.Native.Nat.{ℕ, ◌-◌, ◌^◌, ◌<◌, ◌≤◌}
+use Prim.Native.Nat.{ℕ, ◌-◌, ◌<◌, ◌≤◌}
 use mathlib.Core.Path.{◌≡◌}
-use mathlib.Core.List.{List}
 use native.Mathlib.Omega.{arith}
 use lib.Bits.{and_le_r}
 use lib.Count.{count_trailing_zeros, trailing_of_zero}
-use Rattle.due_search.specs.Word.{PendingWord}
 use Rattle.due_search.proofs.DigitLaws.{set-within}
-use Rattle.due_search.proofs.SearchLaws.{Seen, none_found, seen_first, seen_next, seen_all, seen-enough}
+use Rattle.due_search.proofs.SearchLaws.{none_found, seen_first, seen_next, seen_all, seen-enough}
 use Rattle.due_search.proofs.next_in_word.Goals as goal
 use Rattle.due_search.proofs.next_in_word.Goals.{After-lowest-first, After-lowest-k, After-without_lowest-rest-in-loop-best}
 

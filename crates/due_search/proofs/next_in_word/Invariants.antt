@@ -1,13 +1,9 @@
 -- The loop of `due_search::next_in_word`: `best` is what the definition gives for the threads that the word no longer names.
-use Prim.Native.Nat.{ℕ, ◌-◌, ◌^◌, ◌<◌, ◌≤◌}
-use mathlib.Core.Path.{◌≡◌}
+use Prim.Native.Nat.{ℕ, ◌-◌, ◌^◌, ◌<◌}
 use mathlib.Core.List.{List}
 use native.Mathlib.Omega.{arith}
-use lib.Bits.{and_le_r}
-use lib.Count.{count_trailing_zeros, trailing_of_zero}
 use Rattle.due_search.specs.Word.{PendingWord}
-use Rattle.due_search.proofs.DigitLaws.{set-within}
-use Rattle.due_search.proofs.SearchLaws.{Seen, none_found, seen_first, seen_next, seen_all, seen-enough}
+use Rattle.due_search.proofs.SearchLaws.{Seen}
 use Rattle.due_search.proofs.next_in_word.Given as goal
 
 abbrev pub invariant-loop-best : goal.invariant-loop-best

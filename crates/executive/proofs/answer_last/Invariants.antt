@@ -1,12 +1,10 @@
 -- The loop of `executive::answer_last`: what is known between its turns, and the events that are left.
 use Prim.Native.Nat.{◌+◌, ◌*◌, ◌-◌}
-use lib.ListN.{set}
 use Rattle.state.specs.Updates.{whole}
 use Rattle.trace_reader.specs.Reader.{events_from}
 use Rattle.executive.specs.Steps.{last_given}
 use Rattle.executive.proofs.StepLaws.{weight}
-use Rattle.executive.proofs.LastLaws.{Running, begins, passes}
-use Rattle.executive.proofs.DoneLaws as laws
+use Rattle.executive.proofs.LastLaws.{Running}
 use Rattle.executive.proofs.answer_last.Given as goal
 
 abbrev pub invariant-loop-stand : goal.invariant-loop-stand

@@ -1,14 +1,9 @@
 -- `executive::event` meets its contract: no event comes after it.
-use borrow.Author.Rules.{rules}
-use mathlib.Core.Path.{refl, ap, ◌∙◌}
-use Rattle.base.proofs.TestLaws.{false-true}
+use mathlib.Core.Path.{ap, ◌∙◌}
 use Rattle.state.specs.Updates.{whole}
 use Rattle.executive.specs.Steps.{answer_to, numbers_of}
 use Rattle.executive.proofs.LastLaws.{single}
 use Rattle.executive.proofs.event.Goals as goal
-
-pub answer_last-requires : goal.answer_last-requires
-answer_last-requires c = (λ q. false-true q, λ q. false-true q, λ q. refl)
 
 pub returns : goal.returns
 returns c =

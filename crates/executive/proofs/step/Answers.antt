@@ -1,13 +1,9 @@
 -- `executive::step` meets its contract: no event comes after it.
-use borrow.Author.Rules.{rules}
-use mathlib.Core.Path.{refl, ap, ◌∙◌}
+use mathlib.Core.Path.{ap, ◌∙◌}
 use Rattle.state.specs.Updates.{whole}
 use Rattle.executive.specs.Steps.{answer_to, numbers_of}
 use Rattle.executive.proofs.LastLaws.{single}
 use Rattle.executive.proofs.step.Goals as goal
-
-pub answer_last-requires : goal.answer_last-requires
-answer_last-requires c = (λ q. c.requires.0, λ q. c.requires.1, λ q. refl)
 
 pub returns : goal.returns
 returns c =

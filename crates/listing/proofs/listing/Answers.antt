@@ -1,4 +1,6 @@
 -- `listing::listing` meets its contract.
+use Prim.Native.Nat.{ℕ}
+use mathlib.Core.Path.{ap, ◌∙◌}
 use native.Mathlib.Omega.{arith}
 use Rattle.listing.proofs.ListingLaws.{too_short, long-enough, taken-size}
 use Rattle.listing.proofs.listing.Goals as goal
@@ -7,7 +9,7 @@ pub returns-then-out-length : goal.returns-then-out-length
 returns-then-out-length c =
     let p = c.put_listing-length in
     let y = too_short c.args.file.now c.args.out.now p.ensures.put p.ensures.upper_bound c.if-out-length.true in
-    record { value = y.0; out_after = y.1.0; status_value = y.1.1 }
+    record { value = ap (λ (k : ℕ). record { status = k; length = 0 }) c.from.ensures ∙ y.0; out_after = y.1.0; status_value = λ h. c.from.ensures ∙ y.1.1 h }
 
 pub slice_bounds-put_word-end : goal.slice_bounds-put_word-end
 slice_bounds-put_word-end c =

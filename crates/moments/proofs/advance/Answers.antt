@@ -2,7 +2,6 @@
 use Prim.Native.Nat.{ℕ, ◌+◌, ◌-◌, ◌≤◌, ◌<◌}
 use mathlib.Core.Bool.{Bool, true, false}
 use mathlib.Core.Path.{◌≡◌, refl, sym, ap, ◌∙◌, subst, subst⁻¹}
-use mathlib.Core.List.{List}
 use lib.ListN.{get_or}
 use native.Mathlib.Omega.{arith}
 use lib.Dec.{eqb}
@@ -10,17 +9,15 @@ use Rattle.base.proofs.TestLaws.{tests}
 use Rattle.account.specs.Rules.{Room}
 use Rattle.ticks.specs.Running.{earlier}
 use Rattle.reports.specs.Tallies.{Tellable}
-use Rattle.state.specs.declared.State.{State}
 use Rattle.state.specs.State.{thread_at}
 use Rattle.state.specs.Updates.{whole}
-use Rattle.state.proofs.SoundLaws.{Sound, state-out}
-use Rattle.due_search.specs.Word.{PendingWord}
-use Rattle.moments.proofs.TurnLaws.{weight, start, first-of-all, Going}
+use Rattle.state.proofs.SoundLaws.{state-out}
+use Rattle.moments.proofs.TurnLaws.{start, first-of-all}
 use Rattle.moments.proofs.SeenLaws.{seen-held, top_small, thread-fits}
 use Rattle.moments.proofs.ToldLaws.{Telling, tell-start, told-tellable}
-use Rattle.moments.proofs.AdvanceLaws.{Between, Turn, Ticked, ticked_state, Acted, Put, put_state, put_going, put-falls, put_first, back-small, back-acts, back-not-low, back-not-then, back-room, back-slots, back-least, back-told, rest-fits, rest-idle, last, last-told, not-before, moment-fits, moment-idle, charged-turn, charged-told, ended-rotatable, ended-turn, ended-told, limit-read, limit-requires, limit-sendable, limit-goes-down, limit-first-stays, room, limit-slots, limit-turn, limit-due, limit-told, limit-small}
+use Rattle.moments.proofs.AdvanceLaws.{Turn, Ticked, ticked_state, Put, put_going, put-falls, put_first, back-small, back-acts, back-not-low, back-not-then, back-room, back-slots, back-least, back-told, rest-fits, rest-idle, last, last-told, not-before, moment-fits, moment-idle, charged-turn, charged-told, ended-rotatable, ended-turn, ended-told, limit-read, limit-requires, limit-sendable, limit-goes-down, limit-first-stays, room, limit-slots, limit-turn, limit-due, limit-told, limit-small}
 use Rattle.moments.proofs.advance.Goals as goal
-use Rattle.moments.proofs.advance.Goals.{At-loop-j, Then-due_by, After-take_first, After-wide-i, After-earlier_of-m, After-charged_idle-in-loop-j, After-put_entry}
+use Rattle.moments.proofs.advance.Goals.{At-loop-j, Then-due_by, After-take_first, After-from-i, After-earlier_of-m, After-charged_idle-in-loop-j, After-put_entry}
 
 -- ---- before the first turn
 
@@ -90,11 +87,8 @@ bounds-s-j-then-due_by-3 c = small (goal.at.bounds-s-j-then-due_by-3 c).Then-due
 
 pub take_first-requires : goal.take_first-requires
 take_first-requires c =
-    let g = goal.at.take_first-requires c in
-    let z = c.loop-j.invariant.going.mid.sizes in (
+    let g = goal.at.take_first-requires c in (
       small g.Then-due_by,
-      omega (tests, z),
-      omega (tests, z),
       tellable g.At-loop-j (c.returned-e.result.back + 1) (omega (arith, back-least (whole c.args.s c.args.dues.now c.args.amounts.now) c.args.t (whole c.loop-j.s c.loop-j.dues c.loop-j.amounts) c.loop-j.invariant.going c.loop-j.x c.loop-j.invariant.first (sym c.due_by.ensures ∙ c.if-due_by.true) c.returned-e.result c.returned-e.ensures)),
     )
 
@@ -148,20 +142,20 @@ pub head_at-h-requires : goal.head_at-h-requires
 head_at-h-requires c = seen-held (λ i. (whole c.loop-j.s c.loop-j.dues c.loop-j.amounts).now - 1) (whole c.loop-j.s c.loop-j.dues c.loop-j.amounts) c.loop-j.invariant.going.mid c.highest-p.result c.highest-p.ensures
 
 -- the head is a thread number
-head_small : (c : After-wide-i) → c.wide-i.result < 32
+head_small : (c : After-from-i) → c.from-i.result < 32
 head_small c =
-    omega (arith, c.wide-i.ensures, top_small (λ i. (whole c.loop-j.s c.loop-j.dues c.loop-j.amounts).now - 1) (whole c.loop-j.s c.loop-j.dues c.loop-j.amounts) c.loop-j.invariant.going.mid c.highest-p.result c.head_at-h.result c.highest-p.ensures c.head_at-h.ensures)
+    omega (arith, c.from-i.ensures, top_small (λ i. (whole c.loop-j.s c.loop-j.dues c.loop-j.amounts).now - 1) (whole c.loop-j.s c.loop-j.dues c.loop-j.amounts) c.loop-j.invariant.going.mid c.highest-p.result c.head_at-h.result c.highest-p.ensures c.head_at-h.ensures)
 
 pub offset_bounds-s-i : goal.offset_bounds-s-i
-offset_bounds-s-i c = omega (arith, head_small (goal.at.offset_bounds-s-i c).After-wide-i)
+offset_bounds-s-i c = omega (arith, head_small (goal.at.offset_bounds-s-i c).After-from-i)
 
 pub bounds-s-i : goal.bounds-s-i
-bounds-s-i c = head_small (goal.at.bounds-s-i c).After-wide-i
+bounds-s-i c = head_small (goal.at.bounds-s-i c).After-from-i
 
 pub limit_at-limit-requires : goal.limit_at-limit-requires
 limit_at-limit-requires c =
-    let m = head_small (goal.at.limit_at-limit-requires c).After-wide-i in
-    let f = thread-fits (λ i. (whole c.loop-j.s c.loop-j.dues c.loop-j.amounts).now - 1) (whole c.loop-j.s c.loop-j.dues c.loop-j.amounts) c.loop-j.invariant.going.mid c.wide-i.result m in
+    let m = head_small (goal.at.limit_at-limit-requires c).After-from-i in
+    let f = thread-fits (λ i. (whole c.loop-j.s c.loop-j.dues c.loop-j.amounts).now - 1) (whole c.loop-j.s c.loop-j.dues c.loop-j.amounts) c.loop-j.invariant.going.mid c.from-i.result m in
     omega (tests, f.left, f.server, c.loop-j.invariant.going.mid.sizes)
 
 -- what is known once the next moment is
@@ -176,14 +170,14 @@ turn c =
       first = c.loop-j.x;
       list = c.highest-p.result;
       head = c.head_at-h.result;
-      at = c.wide-i.result;
+      at = c.from-i.result;
       limit = c.limit_at-limit.result;
       moment = c.earlier_of-m.result;
       seen = record {
         first = c.loop-j.invariant.first;
         list = c.highest-p.ensures;
         top = c.head_at-h.ensures;
-        at = c.wide-i.ensures;
+        at = c.from-i.ensures;
         limit = c.limit_at-limit.ensures;
         moment = c.earlier_of-m.ensures;
       };
@@ -198,10 +192,10 @@ pub charged_thread-rest-requires : goal.charged_thread-rest-requires
 charged_thread-rest-requires c = rest-fits (turn (goal.at.charged_thread-rest-requires c).After-earlier_of-m) (sym c.due_by-in-loop-j.ensures ∙ c.if-not-due_by.true)
 
 pub offset_bounds-s-i-then-not-due_by : goal.offset_bounds-s-i-then-not-due_by
-offset_bounds-s-i-then-not-due_by c = omega (arith, head_small (goal.at.offset_bounds-s-i-then-not-due_by c).After-wide-i)
+offset_bounds-s-i-then-not-due_by c = omega (arith, head_small (goal.at.offset_bounds-s-i-then-not-due_by c).After-from-i)
 
 pub bounds-s-i-then-not-due_by : goal.bounds-s-i-then-not-due_by
-bounds-s-i-then-not-due_by c = head_small (goal.at.bounds-s-i-then-not-due_by c).After-wide-i
+bounds-s-i-then-not-due_by c = head_small (goal.at.bounds-s-i-then-not-due_by c).After-from-i
 
 pub charged_idle-requires : goal.charged_idle-requires
 charged_idle-requires c = rest-idle (turn (goal.at.charged_idle-requires c).After-earlier_of-m)
@@ -236,14 +230,14 @@ turn_of c =
       first = c.loop-j.x;
       list = c.highest-p.result;
       head = c.head_at-h.result;
-      at = c.wide-i.result;
+      at = c.from-i.result;
       limit = c.limit_at-limit.result;
       moment = c.earlier_of-m.result;
       seen = record {
         first = c.loop-j.invariant.first;
         list = c.highest-p.ensures;
         top = c.head_at-h.ensures;
-        at = c.wide-i.ensures;
+        at = c.from-i.ensures;
         limit = c.limit_at-limit.ensures;
         moment = c.earlier_of-m.ensures;
       };
@@ -262,10 +256,10 @@ ticked c =
 -- ---- a due that is no limit
 
 pub offset_bounds-s-i-then-not-limit_first : goal.offset_bounds-s-i-then-not-limit_first
-offset_bounds-s-i-then-not-limit_first c = omega (arith, head_small (goal.at.offset_bounds-s-i-then-not-limit_first c).After-wide-i)
+offset_bounds-s-i-then-not-limit_first c = omega (arith, head_small (goal.at.offset_bounds-s-i-then-not-limit_first c).After-from-i)
 
 pub bounds-s-i-then-not-limit_first : goal.bounds-s-i-then-not-limit_first
-bounds-s-i-then-not-limit_first c = head_small (goal.at.bounds-s-i-then-not-limit_first c).After-wide-i
+bounds-s-i-then-not-limit_first c = head_small (goal.at.bounds-s-i-then-not-limit_first c).After-from-i
 
 -- whether the moment is the limit is decided
 no-limit : (t : Turn) (r : Bool) → r ≡ eqb (earlier t.limit t.first.due) t.limit → (r ≡ false) → eqb t.moment t.limit ≡ false
@@ -292,11 +286,11 @@ loop-j-preserved-then-not-limit_first c =
 
 -- ---- the end of a quantum
 
-pub offset_bounds-s-i-then-after-eq1 : goal.offset_bounds-s-i-then-after-eq1
-offset_bounds-s-i-then-after-eq1 c = omega (arith, head_small (goal.at.offset_bounds-s-i-then-after-eq1 c).After-wide-i)
+pub offset_bounds-s-i-then-after-eq-SCHED_RR : goal.offset_bounds-s-i-then-after-eq-SCHED_RR
+offset_bounds-s-i-then-after-eq-SCHED_RR c = omega (arith, head_small (goal.at.offset_bounds-s-i-then-after-eq-SCHED_RR c).After-from-i)
 
-pub bounds-s-i-then-after-eq1 : goal.bounds-s-i-then-after-eq1
-bounds-s-i-then-after-eq1 c = head_small (goal.at.bounds-s-i-then-after-eq1 c).After-wide-i
+pub bounds-s-i-then-after-eq-SCHED_RR : goal.bounds-s-i-then-after-eq-SCHED_RR
+bounds-s-i-then-after-eq-SCHED_RR c = head_small (goal.at.bounds-s-i-then-after-eq-SCHED_RR c).After-from-i
 
 pub rotate-requires : goal.rotate-requires
 rotate-requires c =
@@ -304,24 +298,24 @@ rotate-requires c =
     ended-rotatable (turn_of d) (ticked d) (at-limit (turn_of d) c.limit_first.result c.limit_first.ensures c.if-not-limit_first.false)
 
 pub tell_quantum-requires : goal.tell_quantum-requires
-tell_quantum-requires c = let g = goal.at.tell_quantum-requires c in (head_small g.After-wide-i, tellable g.At-loop-j 1 (omega arith))
+tell_quantum-requires c = let g = goal.at.tell_quantum-requires c in (head_small g.After-from-i, tellable g.At-loop-j 1 (omega arith))
 
-pub loop-j-smaller-then-after-eq1 : goal.loop-j-smaller-then-after-eq1
-loop-j-smaller-then-after-eq1 c =
-    let d = (goal.at.loop-j-smaller-then-after-eq1 c).After-charged_idle-in-loop-j in
+pub loop-j-smaller-then-after-eq-SCHED_RR : goal.loop-j-smaller-then-after-eq-SCHED_RR
+loop-j-smaller-then-after-eq-SCHED_RR c =
+    let d = (goal.at.loop-j-smaller-then-after-eq-SCHED_RR c).After-charged_idle-in-loop-j in
     let l = at-limit (turn_of d) c.limit_first.result c.limit_first.ensures c.if-not-limit_first.false in
-    (ended-turn (turn_of d) (ticked d) l c.if-after-eq1.true c.with_full_quantum-full.result _ c.with_full_quantum-full.ensures c.rotate.ensures).1
+    (ended-turn (turn_of d) (ticked d) l c.if-after-eq-SCHED_RR.true c.with_full_quantum-full.result _ c.with_full_quantum-full.ensures c.rotate.ensures).1
 
-pub loop-j-preserved-then-after-eq1 : goal.loop-j-preserved-then-after-eq1
-loop-j-preserved-then-after-eq1 c =
-    let d = (goal.at.loop-j-preserved-then-after-eq1 c).After-charged_idle-in-loop-j in
+pub loop-j-preserved-then-after-eq-SCHED_RR : goal.loop-j-preserved-then-after-eq-SCHED_RR
+loop-j-preserved-then-after-eq-SCHED_RR c =
+    let d = (goal.at.loop-j-preserved-then-after-eq-SCHED_RR c).After-charged_idle-in-loop-j in
     let l = at-limit (turn_of d) c.limit_first.result c.limit_first.ensures c.if-not-limit_first.false in
     record {
       going =
-          (ended-turn (turn_of d) (ticked d) l c.if-after-eq1.true c.with_full_quantum-full.result _ c.with_full_quantum-full.ensures c.rotate.ensures).0;
+          (ended-turn (turn_of d) (ticked d) l c.if-after-eq-SCHED_RR.true c.with_full_quantum-full.result _ c.with_full_quantum-full.ensures c.rotate.ensures).0;
       telling =
           subst⁻¹ (Telling (turn_of d).origin (turn_of d).to _) c.tell_quantum.ensures
-          (ended-told (turn_of d) (ticked d) l c.if-after-eq1.true c.with_full_quantum-full.result _
+          (ended-told (turn_of d) (ticked d) l c.if-after-eq-SCHED_RR.true c.with_full_quantum-full.result _
           c.with_full_quantum-full.ensures c.rotate.ensures _ c.loop-j.invariant.telling);
       named = c.loop-j.invariant.named;
       first = c.loop-j.invariant.first;
@@ -332,46 +326,43 @@ loop-j-preserved-then-after-eq1 c =
 pub reached-e-requires : goal.reached-e-requires
 reached-e-requires c =
     let d = (goal.at.reached-e-requires c).After-charged_idle-in-loop-j in
-    (limit-requires (turn_of d) (ticked d) (at-limit (turn_of d) c.limit_first.result c.limit_first.ensures c.if-not-limit_first.false) c.if-after-eq1.false).0
+    (limit-requires (turn_of d) (ticked d) (at-limit (turn_of d) c.limit_first.result c.limit_first.ensures c.if-not-limit_first.false) c.if-after-eq-SCHED_RR.false).0
 
 pub offset_bounds-s-i-in-loop-j : goal.offset_bounds-s-i-in-loop-j
-offset_bounds-s-i-in-loop-j c = omega (arith, head_small (goal.at.offset_bounds-s-i-in-loop-j c).After-wide-i)
+offset_bounds-s-i-in-loop-j c = omega (arith, head_small (goal.at.offset_bounds-s-i-in-loop-j c).After-from-i)
 
 pub bounds-s-i-in-loop-j : goal.bounds-s-i-in-loop-j
-bounds-s-i-in-loop-j c = head_small (goal.at.bounds-s-i-in-loop-j c).After-wide-i
+bounds-s-i-in-loop-j c = head_small (goal.at.bounds-s-i-in-loop-j c).After-from-i
 
 pub send_down-requires : goal.send_down-requires
 send_down-requires c =
     let d = (goal.at.send_down-requires c).After-charged_idle-in-loop-j in
     let l = at-limit (turn_of d) c.limit_first.result c.limit_first.ensures c.if-not-limit_first.false in
-    let r = limit-sendable (turn_of d) (ticked d) l c.if-after-eq1.false c.reached-e.result c.reached-e.ensures in
-    (limit-goes-down (turn_of d) (ticked d) l c.if-after-eq1.false c.reached-e.result c.reached-e.ensures, r.stays, r.low, r.both)
+    let r = limit-sendable (turn_of d) (ticked d) l c.if-after-eq-SCHED_RR.false c.reached-e.result c.reached-e.ensures in
+    (limit-goes-down (turn_of d) (ticked d) l c.if-after-eq-SCHED_RR.false c.reached-e.result c.reached-e.ensures, r.stays, r.low, r.both)
 
 pub bounds-s-i-in-loop-j-2 : goal.bounds-s-i-in-loop-j-2
-bounds-s-i-in-loop-j-2 c = head_small (goal.at.bounds-s-i-in-loop-j-2 c).After-wide-i
+bounds-s-i-in-loop-j-2 c = head_small (goal.at.bounds-s-i-in-loop-j-2 c).After-from-i
 
 pub count_after-pending-requires-in-loop-j : goal.count_after-pending-requires-in-loop-j
 count_after-pending-requires-in-loop-j c =
     let d = (goal.at.count_after-pending-requires-in-loop-j c).After-charged_idle-in-loop-j in
-    room (turn_of d) (ticked d) (at-limit (turn_of d) c.limit_first.result c.limit_first.ensures c.if-not-limit_first.false) c.if-after-eq1.false c.reached-e.result c.reached-e.ensures
+    room (turn_of d) (ticked d) (at-limit (turn_of d) c.limit_first.result c.limit_first.ensures c.if-not-limit_first.false) c.if-after-eq-SCHED_RR.false c.reached-e.result c.reached-e.ensures
 
 pub bounds-s-i-in-loop-j-3 : goal.bounds-s-i-in-loop-j-3
-bounds-s-i-in-loop-j-3 c = head_small (goal.at.bounds-s-i-in-loop-j-3 c).After-wide-i
+bounds-s-i-in-loop-j-3 c = head_small (goal.at.bounds-s-i-in-loop-j-3 c).After-from-i
 
 pub put_entry-requires : goal.put_entry-requires
 put_entry-requires c =
     let g = goal.at.put_entry-requires c in
     let d = g.After-charged_idle-in-loop-j in
-    let l = at-limit (turn_of d) c.limit_first.result c.limit_first.ensures c.if-not-limit_first.false in
-    let z = c.loop-j.invariant.going.mid.sizes in (
-      head_small g.After-wide-i,
-      omega (tests, z),
-      omega (tests, z),
-      subst (λ (b : Bool). Room b c.reached-e.result.amount (get_or c.loop-j.s.counts c.wide-i.result 0))
-          (limit-first-stays (turn_of d) (ticked d) l c.if-after-eq1.false c.reached-e.result c.reached-e.ensures)
-          (room (turn_of d) (ticked d) l c.if-after-eq1.false c.reached-e.result c.reached-e.ensures),
+    let l = at-limit (turn_of d) c.limit_first.result c.limit_first.ensures c.if-not-limit_first.false in (
+      head_small g.After-from-i,
+      subst (λ (b : Bool). Room b c.reached-e.result.amount (get_or c.loop-j.s.counts c.from-i.result 0))
+          (limit-first-stays (turn_of d) (ticked d) l c.if-after-eq-SCHED_RR.false c.reached-e.result c.reached-e.ensures)
+          (room (turn_of d) (ticked d) l c.if-after-eq-SCHED_RR.false c.reached-e.result c.reached-e.ensures),
       tellable g.At-loop-j (c.reached-e.result.back + 2)
-          (omega (arith, limit-small (turn_of d) (ticked d) l c.if-after-eq1.false c.reached-e.result c.reached-e.ensures)),
+          (omega (arith, limit-small (turn_of d) (ticked d) l c.if-after-eq-SCHED_RR.false c.reached-e.result c.reached-e.ensures)),
     )
 
 -- its effect is in place
@@ -386,14 +377,14 @@ turn_put c =
       first = c.loop-j.x;
       list = c.highest-p.result;
       head = c.head_at-h.result;
-      at = c.wide-i.result;
+      at = c.from-i.result;
       limit = c.limit_at-limit.result;
       moment = c.earlier_of-m.result;
       seen = record {
         first = c.loop-j.invariant.first;
         list = c.highest-p.ensures;
         top = c.head_at-h.ensures;
-        at = c.wide-i.ensures;
+        at = c.from-i.ensures;
         limit = c.limit_at-limit.ensures;
         moment = c.earlier_of-m.ensures;
       };
@@ -422,43 +413,43 @@ written c =
       dues = _;
       amounts = _;
       lists = _;
-      number_is = sym c.wide-i.ensures;
-      read = limit-read (turn_put c) (ticked_put c) (limit_put c) c.if-after-eq1.false;
+      number_is = sym c.from-i.ensures;
+      read = limit-read (turn_put c) (ticked_put c) (limit_put c) c.if-after-eq-SCHED_RR.false;
       word-is = c.send_down.ensures.1;
       thread-is = c.served-changed-in-loop-j.ensures;
       count-is = c.count_after-pending-in-loop-j.ensures;
-      dues-is = limit-slots (turn_put c) (ticked_put c) (limit_put c) c.if-after-eq1.false c.reached-e.result c.reached-e.ensures _ _ _ c.loop-j.dues _ c.put_entry.ensures.0;
-      amounts-is = limit-slots (turn_put c) (ticked_put c) (limit_put c) c.if-after-eq1.false c.reached-e.result c.reached-e.ensures _ _ _ c.loop-j.amounts _ c.put_entry.ensures.1;
+      dues-is = limit-slots (turn_put c) (ticked_put c) (limit_put c) c.if-after-eq-SCHED_RR.false c.reached-e.result c.reached-e.ensures _ _ _ c.loop-j.dues _ c.put_entry.ensures.0;
+      amounts-is = limit-slots (turn_put c) (ticked_put c) (limit_put c) c.if-after-eq-SCHED_RR.false c.reached-e.result c.reached-e.ensures _ _ _ c.loop-j.amounts _ c.put_entry.ensures.1;
       lists-is = c.send_down.ensures.0;
     }
 
 pub word_after-waiting-requires-in-loop-j : goal.word_after-waiting-requires-in-loop-j
-word_after-waiting-requires-in-loop-j c = head_small (goal.at.word_after-waiting-requires-in-loop-j c).After-wide-i
+word_after-waiting-requires-in-loop-j c = head_small (goal.at.word_after-waiting-requires-in-loop-j c).After-from-i
 
 pub overflow_mul-d : goal.overflow_mul-d
-overflow_mul-d c = omega (arith, head_small (goal.at.overflow_mul-d c).After-wide-i)
+overflow_mul-d c = omega (arith, head_small (goal.at.overflow_mul-d c).After-from-i)
 
 pub offset_bounds-dues-i : goal.offset_bounds-dues-i
-offset_bounds-dues-i c = omega (arith, head_small (goal.at.offset_bounds-dues-i c).After-wide-i)
+offset_bounds-dues-i c = omega (arith, head_small (goal.at.offset_bounds-dues-i c).After-from-i)
 
 pub bounds-dues-i : goal.bounds-dues-i
-bounds-dues-i c = omega (arith, head_small (goal.at.bounds-dues-i c).After-wide-i)
+bounds-dues-i c = omega (arith, head_small (goal.at.bounds-dues-i c).After-from-i)
 
 pub loop-j-smaller : goal.loop-j-smaller
 loop-j-smaller c =
     let w = (goal.at.loop-j-smaller c).After-put_entry in
-    (limit-turn (turn_put w) (ticked_put w) (limit_put w) c.if-after-eq1.false c.reached-e.result c.reached-e.ensures (written w)).1
+    (limit-turn (turn_put w) (ticked_put w) (limit_put w) c.if-after-eq-SCHED_RR.false c.reached-e.result c.reached-e.ensures (written w)).1
 
 pub loop-j-preserved : goal.loop-j-preserved
 loop-j-preserved c =
     let g = goal.at.loop-j-preserved c in
     let w = g.After-put_entry in
-    let m = head_small g.After-wide-i in
+    let m = head_small g.After-from-i in
     record {
-      going = (limit-turn (turn_put w) (ticked_put w) (limit_put w) c.if-after-eq1.false c.reached-e.result c.reached-e.ensures (written w)).0;
+      going = (limit-turn (turn_put w) (ticked_put w) (limit_put w) c.if-after-eq-SCHED_RR.false c.reached-e.result c.reached-e.ensures (written w)).0;
       telling =
           subst⁻¹ (Telling (whole c.args.s c.args.dues.now c.args.amounts.now) c.args.t _) c.put_entry.ensures.2
-          (limit-told (turn_put w) (ticked_put w) (limit_put w) c.if-after-eq1.false c.reached-e.result c.reached-e.ensures (written w) _ c.loop-j.invariant.telling);
+          (limit-told (turn_put w) (ticked_put w) (limit_put w) c.if-after-eq-SCHED_RR.false c.reached-e.result c.reached-e.ensures (written w) _ c.loop-j.invariant.telling);
       named = c.word_after-waiting-in-loop-j.ensures c.loop-j.s.counts (omega (tests, m, c.loop-j.invariant.going.mid.sizes)) c.loop-j.invariant.named;
-      first = limit-due (turn_put w) (ticked_put w) (limit_put w) c.if-after-eq1.false c.reached-e.result c.reached-e.ensures (written w) c.after_limit-x.result c.after_limit-x.ensures;
+      first = limit-due (turn_put w) (ticked_put w) (limit_put w) c.if-after-eq-SCHED_RR.false c.reached-e.result c.reached-e.ensures (written w) c.after_limit-x.result c.after_limit-x.ensures;
     }

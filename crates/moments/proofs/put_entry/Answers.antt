@@ -1,20 +1,15 @@
 -- `moments::put_entry` meets its contract.
 use Prim.Native.Nat.{ℕ}
 use mathlib.Core.Bool.{false}
-use mathlib.Core.Path.{◌≡◌, refl, sym, ap, ◌∙◌}
+use mathlib.Core.Path.{◌≡◌, sym, ap, ◌∙◌}
 use mathlib.Core.List.{List}
 use lib.Dec.{eqb}
-use native.Mathlib.Omega.{arith}
 use borrow.Author.Tests.{eq-eqb, ne_eqb}
-use borrow.Author.Rules.{rules}
 use Rattle.base.proofs.TestLaws.{cond-false}
 use Rattle.account.specs.Rules.{slot_for, inserted, slots_after}
 use Rattle.rows.specs.Rows.{slots_at, with_slots}
 use Rattle.rows.proofs.RowLaws.{row_same}
 use Rattle.moments.proofs.put_entry.Goals as goal
-
-pub tell_limit-requires : goal.tell_limit-requires
-tell_limit-requires c = let b = c in (b.requires.0, b.requires.4)
 
 pub returns-then-amount-eq0 : goal.returns-then-amount-eq0
 returns-then-amount-eq0 c =
@@ -22,14 +17,6 @@ returns-then-amount-eq0 c =
     let a = o.args in
     let z = eq-eqb a.amount 0 c.if-amount-eq0.true in
     (rw z (sym (row_same a.i a.dues.now)), rw z (sym (row_same a.i a.amounts.now)), o.tell_limit.ensures)
-
--- ---- an entry comes
-
-pub insert_entry-requires : goal.insert_entry-requires
-insert_entry-requires c =
-    let w = c in
-    let b = w in
-    (b.requires.0, omega (arith, w.wide-n.ensures, b.requires.3.1 refl (omega arith)), b.requires.1, b.requires.2)
 
 -- it stands at the slot that its due time has among the dues
 at_slot : (amount due count i x n : ℕ) (ds xs ys : List ℕ) → eqb amount 0 ≡ false → n ≡ count
@@ -46,7 +33,7 @@ returns c =
     let a = o.args in
     let ds = slots_at a.i a.dues.now in
     let n = ne_eqb a.amount 0 o.if-amount-eq0.false in (
-      at_slot a.amount a.due a.count a.i a.due w.wide-n.result ds a.dues.now _ n w.wide-n.ensures c.insert_entry.ensures.0,
-      at_slot a.amount a.due a.count a.i a.amount w.wide-n.result ds a.amounts.now _ n w.wide-n.ensures c.insert_entry.ensures.1,
+      at_slot a.amount a.due a.count a.i a.due w.from.result ds a.dues.now _ n w.from.ensures c.insert_entry.ensures.0,
+      at_slot a.amount a.due a.count a.i a.amount w.from.result ds a.amounts.now _ n w.from.ensures c.insert_entry.ensures.1,
       o.tell_limit.ensures,
     )

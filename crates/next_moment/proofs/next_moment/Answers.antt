@@ -3,7 +3,6 @@ use Prim.Native.Nat.{ℕ}
 use mathlib.Core.Bool.{cond}
 use mathlib.Core.Path.{◌≡◌, ap, ◌∙◌}
 use lib.Dec.{eqb}
-use borrow.Author.Rules.{rules}
 use Rattle.due_search.specs.declared.Due.{Due}
 use Rattle.ticks.specs.Running.{earlier, limit_of}
 use Rattle.due_search.specs.Search.{next_due}

@@ -1,5 +1,4 @@
 -- `opening::empty_core` meets its contract.
-use borrow.Author.Rules.{rules}
 use Rattle.opening.proofs.OpenLaws.{empty-is}
 use Rattle.opening.proofs.empty_core.Goals as goal
 

@@ -1,40 +1,29 @@
--- `opening::table_holds` meets its contract. The invariant: the test of all n threads is that of the first i.
-use Prim.Native.Nat.{ℕ, ◌-◌, ◌≤◌}
-use mathlib.Core.Path.{◌≡◌, refl, sym, ap, ◌∙◌}
+-- `opening::table_holds` meets its contract.
+use Prim.Native.Nat.{ℕ, ◌<◌}
+use mathlib.Core.Bool.{true, ◌&&◌}
+use mathlib.Core.Path.{◌≡◌, sym, ap, ◌∙◌}
+use lib.Dec.{leb}
 use native.Mathlib.Omega.{arith}
-use borrow.Author.Rules.{rules}
-use Rattle.base.specs.Tests.{below}
-use Rattle.opening.proofs.OpenLaws.{opens, below_less, below-stops}
+use borrow.Author.Count.{below_more}
+use Rattle.std.proofs.lemmas.List.{get_or-take, length-take}
+use Rattle.records.specs.declared.Parameters.{Parameters}
+use Rattle.records.specs.Ranges.{in_range, no_parameters}
+use Rattle.base.proofs.TestLaws.{at-below}
+use Rattle.opening.proofs.OpenLaws.{opens, below-fails}
 use Rattle.opening.proofs.table_holds.Goals as goal
-
-pub loop-i-init : goal.loop-i-init
-loop-i-init c = (omega arith, refl)
-
-pub overflow_sub-i : goal.overflow_sub-i
-overflow_sub-i c = omega arith
-
-pub offset_bounds-table-i : goal.offset_bounds-table-i
-offset_bounds-table-i c = omega arith
-
-pub bounds-table-i : goal.bounds-table-i
-bounds-table-i c = omega arith
 
 pub returns-then-not-may_open : goal.returns-then-not-may_open
 returns-then-not-may_open c =
-    let b = c in
-    sym (b.loop-i.invariant.1 ∙ below-stops (opens b.args.table) b.loop-i.i (b.loop-i.i - 1) (omega arith) (sym c.may_open.ensures ∙ c.if-not-may_open.true))
+    let h : c.loop-p.p-index < c.args.n = omega (arith, length-take {A = Parameters}) in
+    let e = get_or-take c.args.n c.args.table c.loop-p.p-index no_parameters h in
+    sym (below-fails c.args.n (opens c.args.table) c.loop-p.p-index h (ap (λ (p : Parameters). in_range 8 p && leb p.flag 1) (sym e) ∙ sym c.may_open.ensures ∙ c.if-not-may_open.true))
 
-pub loop-i-smaller : goal.loop-i-smaller
-loop-i-smaller c = omega arith
-
-pub loop-i-preserved : goal.loop-i-preserved
-loop-i-preserved c =
-    let b = c in
-    (omega arith, b.loop-i.invariant.1 ∙ below_less (opens b.args.table) b.loop-i.i (b.loop-i.i - 1) (omega arith) (sym c.may_open.ensures ∙ c.if-not-may_open.false))
+pub loop-p-preserved : goal.loop-p-preserved
+loop-p-preserved c =
+    let h : c.loop-p.p-index < c.args.n = omega (arith, length-take {A = Parameters}) in
+    let e = get_or-take c.args.n c.args.table c.loop-p.p-index no_parameters h in
+    below_more (λ (k : ℕ). opens c.args.table k ≡ true) c.loop-p.p-index c.loop-p.invariant
+    (ap (λ (p : Parameters). in_range 8 p && leb p.flag 1) (sym e) ∙ sym c.may_open.ensures ∙ c.if-not-may_open.false)
 
 pub returns : goal.returns
-unfolding below
-returns c =
-    let b = c in
-    let e : b.loop-i.i ≡ 0 = omega arith in
-    sym (b.loop-i.invariant.1 ∙ ap (λ (x : ℕ). below x (opens b.args.table)) e)
+returns c = sym (at-below c.args.n (opens c.args.table) (λ k h. c.loop-p.invariant k (omega (arith, length-take {A = Parameters}))))

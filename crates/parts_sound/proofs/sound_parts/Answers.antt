@@ -1,16 +1,13 @@
 -- `parts_sound::sound_parts` meets its contract: a part that fails makes the list of tests false, and where the others hold the
 -- run times decide.
 use Prim.Native.Nat.{ℕ, ◌+◌, ◌-◌, ◌≤◌, ◌<◌}
-use mathlib.Core.Bool.{Bool, true, false, not}
+use mathlib.Core.Bool.{Bool, true, false}
 use mathlib.Core.Path.{◌≡◌, refl, sym, ap, fun_ext, ◌∙◌}
 use mathlib.Core.List.{List}
 use native.Mathlib.Omega.{arith}
 use lib.ListN.{length, drop, get_or, set, length-set, replicate, get_or-replicate}
 use lib.Seq.{get_or-set_other}
 use lib.Dec.{ltb, eqb}
-use mir.Syntax.{w64}
-use mir.Val.{Fits}
-use borrow.Author.Rules.{rules}
 use borrow.Author.Tests.{lt-leb, le-leb, eq-eqb, ne_eqb}
 use Rattle.records.specs.Ranges.{most_threads, last_time}
 use Rattle.base.specs.Tests.{all, below}
@@ -19,12 +16,12 @@ use Rattle.ready.specs.Sound.{sound_lists}
 use Rattle.thread.specs.declared.Thread.{Thread}
 use Rattle.state.specs.declared.State.{State}
 use Rattle.state.specs.State.{thread_at, pending_at, place}
-use Rattle.state.specs.Sound.{thread_test, present_test, absent_test, totals, sound_tests, sound_state}
+use Rattle.state.specs.Sound.{thread_test, present_test, totals, sound_tests, sound_state}
 use Rattle.state.specs.Updates.{state_of}
 use Rattle.state.proofs.TestLaws.{◌and◌, by_last, below_next, below_false, eqb_same}
 use Rattle.state.proofs.ThreadLaws.{Filled, fill-next, fill_end, totals-next}
 use Rattle.state.proofs.AbsentLaws.{no_thread_tests, at-absent, at-present, none_in, none-thread, none-slots, none-run, absent-place, absent-total}
-use Rattle.parts_sound.proofs.sound_parts.Invariants.{None, Passed, Bounds}
+use Rattle.parts_sound.proofs.sound_parts.Invariants.{None, Passed}
 use Rattle.parts_sound.proofs.sound_parts.Goals as goal
 
 -- the start time, all run times and the idle time
@@ -100,12 +97,6 @@ below_all i n m l h = omega arith
 none_between : {A : Type 0} (n j : ℕ) → n ≤ j → j < n → A
 none_between n j h l = absurd (omega arith)
 
-next_fits : (i : ℕ) → i < 32 → Fits w64 (i + 1)
-next_fits i l = omega arith
-
-nearer : (n i : ℕ) → i < n → n - (i + 1) < n - i
-nearer n i l = omega arith
-
 first_rest : (now start total : ℕ) → start ≤ now → now - start + (start + total) ≡ now + total
 first_rest now start total h = omega arith
 
@@ -154,27 +145,11 @@ overflow_cast-n c = omega arith
 pub loop-k-init : goal.loop-k-init
 loop-k-init c = record { many = omega arith; low = omega arith; high = c.if-header-gt-MOST.false; each = λ j a b. none_between _ j a b }
 
-pub offset_bounds-threads-k : goal.offset_bounds-threads-k
-offset_bounds-threads-k c = omega arith
-
-pub bounds-threads-k : goal.bounds-threads-k
-bounds-threads-k c = c.loop-k-test.true
-
-pub bounds-counts-k : goal.bounds-counts-k
-bounds-counts-k c = c.loop-k-test.true
-
 pub returns-then-not-no_thread : goal.returns-then-not-no_thread
 returns-then-not-no_thread c =
     let b = c in
-    let n : Bounds (state_of c.args.header c.args.time c.args.idle c.args.word c.args.threads c.args.counts.now c.args.dues.now c.args.amounts.now c.args.lists.now) = record { few = c.if-header-gt-MOST.false; dues = c.requires.1; amounts = c.requires.2 } in
     unsound (state_of c.args.header c.args.time c.args.idle c.args.word c.args.threads c.args.counts.now c.args.dues.now c.args.amounts.now c.args.lists.now) (sym c.no_thread.ensures ∙ c.if-not-no_thread.true)
-    (λ y. none-thread (state_of c.args.header c.args.time c.args.idle c.args.word c.args.threads c.args.counts.now c.args.dues.now c.args.amounts.now c.args.lists.now) n.few n.dues n.amounts y b.loop-k.k b.loop-k.invariant.low c.loop-k-test.true)
-
-pub overflow_add-k : goal.overflow_add-k
-overflow_add-k c = next_fits _ c.loop-k-test.true
-
-pub loop-k-smaller : goal.loop-k-smaller
-loop-k-smaller c = nearer 32 _ c.loop-k-test.true
+    (λ y. none-thread (state_of c.args.header c.args.time c.args.idle c.args.word c.args.threads c.args.counts.now c.args.dues.now c.args.amounts.now c.args.lists.now) c.if-header-gt-MOST.false (omega arith) (omega arith) y b.loop-k.k b.loop-k.invariant.low c.loop-k-test.true)
 
 pub loop-k-preserved : goal.loop-k-preserved
 loop-k-preserved c =
@@ -184,18 +159,16 @@ loop-k-preserved c =
 pub returns-then-not-no_slots : goal.returns-then-not-no_slots
 returns-then-not-no_slots c =
     let b = c in
-    let n : Bounds (state_of c.args.header c.args.time c.args.idle c.args.word c.args.threads c.args.counts.now c.args.dues.now c.args.amounts.now c.args.lists.now) = record { few = c.if-header-gt-MOST.false; dues = c.requires.1; amounts = c.requires.2 } in
-    unsound (state_of c.args.header c.args.time c.args.idle c.args.word c.args.threads c.args.counts.now c.args.dues.now c.args.amounts.now c.args.lists.now) (sym c.no_slots.ensures ∙ c.if-not-no_slots.true) (λ y. none-slots (state_of c.args.header c.args.time c.args.idle c.args.word c.args.threads c.args.counts.now c.args.dues.now c.args.amounts.now c.args.lists.now) n.few n.dues n.amounts y)
+    unsound (state_of c.args.header c.args.time c.args.idle c.args.word c.args.threads c.args.counts.now c.args.dues.now c.args.amounts.now c.args.lists.now) (sym c.no_slots.ensures ∙ c.if-not-no_slots.true) (λ y. none-slots (state_of c.args.header c.args.time c.args.idle c.args.word c.args.threads c.args.counts.now c.args.dues.now c.args.amounts.now c.args.lists.now) c.if-header-gt-MOST.false (omega arith) (omega arith) y)
 
 pub loop-i-init : goal.loop-i-init
 unfolding below
 loop-i-init c =
     let b = c in
-    let n : Bounds (state_of c.args.header c.args.time c.args.idle c.args.word c.args.threads c.args.counts.now c.args.dues.now c.args.amounts.now c.args.lists.now) = record { few = c.if-header-gt-MOST.false; dues = c.requires.1; amounts = c.requires.2 } in
     let k = c.loop-k-test.false in
     record {
-      few = n.few;
-      none = none_in (state_of c.args.header c.args.time c.args.idle c.args.word c.args.threads c.args.counts.now c.args.dues.now c.args.amounts.now c.args.lists.now) n.few n.dues n.amounts (λ j lo up. b.loop-k.invariant.each j lo (below_all j 32 b.loop-k.k up k))
+      few = c.if-header-gt-MOST.false;
+      none = none_in (state_of c.args.header c.args.time c.args.idle c.args.word c.args.threads c.args.counts.now c.args.dues.now c.args.amounts.now c.args.lists.now) c.if-header-gt-MOST.false (omega arith) (omega arith) (λ j lo up. b.loop-k.invariant.each j lo (below_all j 32 b.loop-k.k up k))
           (sym c.no_slots.ensures ∙ c.if-not-no_slots.false);
       range = omega arith;
       many = b.loop-k.invariant.many;
@@ -205,9 +178,6 @@ loop-i-init c =
       unfilled = λ j lo up. get_or-replicate 32 j 0 0 up;
       rest = first_rest (state_of c.args.header c.args.time c.args.idle c.args.word c.args.threads c.args.counts.now c.args.dues.now c.args.amounts.now c.args.lists.now).now (state_of c.args.header c.args.time c.args.idle c.args.word c.args.threads c.args.counts.now c.args.dues.now c.args.amounts.now c.args.lists.now).header.start (totals (state_of c.args.header c.args.time c.args.idle c.args.word c.args.threads c.args.counts.now c.args.dues.now c.args.amounts.now c.args.lists.now).threads) b.if-time-header.false;
     }
-
-pub offset_bounds-threads-i : goal.offset_bounds-threads-i
-offset_bounds-threads-i c = omega arith
 
 pub bounds-threads-i : goal.bounds-threads-i
 bounds-threads-i c = below_all _ c.args.header.n 32 c.loop-i-test.true c.loop-i.invariant.few
@@ -230,12 +200,6 @@ returns-then-left-t c =
 
 pub bounds-places-i : goal.bounds-places-i
 bounds-places-i c = below_all _ c.args.header.n 32 c.loop-i-test.true c.loop-i.invariant.few
-
-pub overflow_add-i : goal.overflow_add-i
-overflow_add-i c = next_fits _ (below_all _ c.args.header.n 32 c.loop-i-test.true c.loop-i.invariant.few)
-
-pub loop-i-smaller : goal.loop-i-smaller
-loop-i-smaller c = nearer _ _ c.loop-i-test.true
 
 pub loop-i-preserved : goal.loop-i-preserved
 loop-i-preserved c =
@@ -264,7 +228,6 @@ returns c =
     let h = b.loop-i.invariant in
     let g = c.loop-i-test.false in
     let l = b in
-    let n : Bounds s = record { few = c.if-header-gt-MOST.false; dues = c.requires.1; amounts = c.requires.2 } in
     let e = l in
     let t : s.now ≤ last_time = omega (arith, e.if-time-gt-LAST_TIME.false) in
     by_last (sound_tests s) (timed h g)
@@ -273,9 +236,9 @@ returns c =
     and le-leb _ _ e.if-time-header.false
     and le-leb s.now last_time t
     and eq-eqb (length s.threads) 32 h.many
-    and eq-eqb (length s.counts) 32 l.requires.0
-    and eq-eqb (length s.dues) 256 n.dues
-    and eq-eqb (length s.amounts) 256 n.amounts
+    and eq-eqb (length s.counts) 32 (omega arith)
+    and eq-eqb (length s.dues) 256 (omega arith)
+    and eq-eqb (length s.amounts) 256 (omega arith)
     and every h g
     and sym (listed h g _ c.sound.ensures) ∙ c.if-not-sound.false
     and tt)

@@ -1,28 +1,16 @@
 -- `parts_sound::sound_parts`: what its loops keep.
-use Prim.Native.Nat.{ℕ, ◌+◌, ◌-◌, ◌≤◌, ◌<◌}
-use mathlib.Core.Bool.{Bool, true, false, not}
-use mathlib.Core.Path.{◌≡◌, refl, sym, ap, fun_ext, ◌∙◌}
+use Prim.Native.Nat.{ℕ, ◌+◌, ◌≤◌, ◌<◌}
+use mathlib.Core.Bool.{true}
+use mathlib.Core.Path.{◌≡◌}
 use mathlib.Core.List.{List}
-use native.Mathlib.Omega.{arith}
-use lib.ListN.{length, drop, get_or, set, length-set, replicate, get_or-replicate}
-use lib.Seq.{get_or-set_other}
-use lib.Dec.{ltb, eqb}
-use mir.Syntax.{w64}
-use mir.Val.{Fits}
-use borrow.Author.Rules.{rules}
-use borrow.Author.Tests.{lt-leb, le-leb, eq-eqb, ne_eqb}
-use Rattle.records.specs.Ranges.{most_threads, last_time}
+use lib.ListN.{length, drop, get_or}
 use Rattle.base.specs.Tests.{all, below}
-use Rattle.base.proofs.TestLaws.{tests, all-false, false-true, never_true, below_at, at-below}
-use Rattle.ready.specs.Sound.{sound_lists}
-use Rattle.thread.specs.declared.Thread.{Thread}
 use Rattle.state.specs.declared.State.{State}
-use Rattle.state.specs.State.{thread_at, pending_at, place}
-use Rattle.state.specs.Sound.{thread_test, present_test, absent_test, totals, sound_tests, sound_state}
+use Rattle.state.specs.State.{thread_at, pending_at}
+use Rattle.state.specs.Sound.{thread_test, absent_test, totals}
 use Rattle.state.specs.Updates.{state_of}
-use Rattle.state.proofs.TestLaws.{decided-true, decided-false, ◌and◌, by_last, below_next, below_false, eqb_same}
-use Rattle.state.proofs.ThreadLaws.{Filled, fill-next, fill_end, totals-next}
-use Rattle.state.proofs.AbsentLaws.{no_thread_tests, at-absent, at-present, none_in, none-thread, none-slots, none-run, absent-place, absent-total}
+use Rattle.state.proofs.ThreadLaws.{Filled}
+use Rattle.state.proofs.AbsentLaws.{no_thread_tests}
 use Rattle.parts_sound.proofs.sound_parts.Given as goal
 
 -- the places from N on before k hold no thread, their slots apart
@@ -44,21 +32,9 @@ pub record Passed (s : State) (left : ℕ) (places : List ℕ) (i : ℕ) : Type 
   pub unfilled : (j : ℕ) → i ≤ j → j < 32 → get_or places j 0 ≡ 0
   pub rest : left + (s.header.start + totals s.threads) ≡ s.now + totals (drop i s.threads)
 
--- N threads at most, and slots for all of them
-pub record Bounds (s : State) : Type 0 where
-  pub few : s.header.n ≤ 32
-  pub dues : length s.dues ≡ 256
-  pub amounts : length s.amounts ≡ 256
-
 abbrev pub invariant-loop-k : goal.invariant-loop-k
 invariant-loop-k l = None (state_of l.header l.time l.idle l.word l.threads l.counts l.dues l.amounts l.lists) l.k
-
-abbrev pub decreases-loop-k : goal.decreases-loop-k
-decreases-loop-k l = 32 - l.k
 
 abbrev pub invariant-loop-i : goal.invariant-loop-i
 invariant-loop-i l =
     Passed (state_of l.header l.time l.idle l.word l.threads l.counts l.dues l.amounts l.lists) l.left l.places l.i
-
-abbrev pub decreases-loop-i : goal.decreases-loop-i
-decreases-loop-i l = l.header.n - l.i

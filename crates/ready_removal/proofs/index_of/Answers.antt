@@ -1,60 +1,36 @@
--- `ready_removal::index_of` meets its contract: what stands before the first i from place j on, and j, is what stands before it in all.
-use Prim.Native.Nat.{ℕ, ◌+◌, ◌-◌, ◌≤◌, ◌<◌}
-use mathlib.Core.Path.{◌≡◌, sym, ◌∙◌}
-use mathlib.Core.List.{List, []}
-use native.Mathlib.Omega.{arith}
-use lib.ListN.{length, take, drop, get_or, length-drop, drop_of_length-le}
-use lib.Seq.{length-take-le, get_or-take, get_or-drop}
+-- `ready_removal::index_of` meets its contract: the place that is found, or the length.
+use Rattle.std.proofs.Common.{◌≡◌, ◌+◌, ◌≤◌, ℕ, suc, Bool, true, false, List, Option, Some, None, length, cond, eqb, ltb, refl, sym, ap, ◌∙◌, arith, rules, tests}
+use Rattle.std.specs.List.{position_or_len}
+use Rattle.std.specs.Option.{unwrap_or}
+use borrow.Author.Tests.{ltb-false}
+use Rattle.std.proofs.lemmas.Iterator.{YieldsList-from_slice}
+use Rattle.std.proofs.lemmas.Iterator.Search.{position_from_yields_List}
+use Rattle.std.proofs.lemmas.List.Sums.{prefix_len-le-length}
+use Rattle.std.proofs.lemmas.List.Recursion.{is_position_or_len}
 use Rattle.ready.specs.Private.{index_of}
-use Rattle.ready.proofs.StepLaws.{index-here, index-next}
 use Rattle.ready_removal.proofs.index_of.Goals as goal
 
--- the part that is searched: its length and its places
-part : (l : List ℕ) (at n : ℕ) → at + n ≤ 1056 → length l ≡ 1056 → length (take n (drop at l)) ≡ n
-part l at n h e = length-take-le n (drop at l) (simp length-drop (omega arith))
+-- it is what std counts
+counted : (i : ℕ) (xs : List ℕ) → index_of i xs ≡ position_or_len (λ x. eqb x i) xs
+unfolding index_of
+counted i xs = is_position_or_len (index_of i) (λ x. eqb x i) refl (λ x ys. ap (cond (eqb x i) 0) (one_more (index_of i ys))) xs
+  where
+    one_more : (n : ℕ) → suc n ≡ 1 + n
+    one_more n = omega arith
 
-read : (l : List ℕ) (at n j : ℕ) → j < n → get_or (take n (drop at l)) j 0 ≡ get_or l (at + j) 0
-read l at n j h = get_or-take n (drop at l) j 0 h ∙ get_or-drop at l j 0
-
-pub loop-j-init : goal.loop-j-init
-loop-j-init c = (omega arith, omega arith)
-
-pub overflow_add-at : goal.overflow_add-at
-overflow_add-at c = omega arith
-
-pub bounds-lists-at : goal.bounds-lists-at
-bounds-lists-at c = omega arith
-
-pub returns-then-lists-at : goal.returns-then-lists-at
-returns-then-lists-at c =
-    let b = c in
-    let a = b.args in
-    let k = part a.lists.now a.at a.n b.requires.0 b.requires.1 in
-    let r = read a.lists.now a.at a.n b.loop-j.j (omega arith) in
-    let e = index-here (take a.n (drop a.at a.lists.now)) b.loop-j.j (omega (arith, k)) a.i (r ∙ c.if-lists-at.true) in
-    omega (arith, e)
-
-pub overflow_add-j : goal.overflow_add-j
-overflow_add-j c = omega arith
-
-pub loop-j-smaller : goal.loop-j-smaller
-loop-j-smaller c = omega arith
-
-pub loop-j-preserved : goal.loop-j-preserved
-loop-j-preserved c =
-    let b = c in
-    let a = b.args in
-    let k = part a.lists.now a.at a.n b.requires.0 b.requires.1 in
-    let r = read a.lists.now a.at a.n b.loop-j.j (omega arith) in
-    let e = index-next (take a.n (drop a.at a.lists.now)) b.loop-j.j (omega (arith, k)) a.i (λ z. c.if-lists-at.false (sym r ∙ z)) in
-    (omega arith, omega (arith, e))
+-- and where none is found it is the length
+chosen : (p n : ℕ) → p ≤ n → unwrap_or (cond (ltb p n) (Some p) None) n ≡ p
+chosen p n h = go (ltb p n) refl
+  where
+    go : (b : Bool) → ltb p n ≡ b → unwrap_or (cond b (Some p) None) n ≡ p
+    go true e = refl
+    go false e = omega (arith, ltb-false p n e)
 
 pub returns : goal.returns
-unfolding index_of
 returns c =
-    let b = c in
-    let a = b.args in
-    let k = part a.lists.now a.at a.n b.requires.0 b.requires.1 in
-    let xs = take a.n (drop a.at a.lists.now) in
-    let d : drop b.loop-j.j xs ≡ [] = drop_of_length-le xs {i = b.loop-j.j} (omega (arith, k)) in
-    omega (arith, rw d at b.loop-j.invariant.1)
+    let xs = c.args.list.now in
+    let found = position_from_yields_List (λ x. eqb x c.args.i) _ _ c.position.result c.position.ensures.ran (YieldsList-from_slice xs cc) (λ x b q k. search (rules, tests)) in
+    c.unwrap_or.ensures
+    ∙ ap (λ (r : Option ℕ). unwrap_or r (length xs)) found
+    ∙ chosen (position_or_len (λ x. eqb x c.args.i) xs) (length xs) (prefix_len-le-length _ xs)
+    ∙ sym (counted c.args.i xs)

@@ -11,7 +11,6 @@ use Rattle.base.specs.Tests.{all, zeros}
 use Rattle.base.proofs.TestLaws.{all-false, all_one, false-true}
 use Rattle.ready.specs.Lists.{size, members, unused}
 use Rattle.ready_sound.specs.Private.{strikes, struck, Struck, RowStruck}
-use borrow.Author.Rules.{rules}
 use Rattle.ready_sound.proofs.strike_row.Goals as goal
 
 -- what is tested is the part's own
@@ -37,20 +36,20 @@ pub returns-then-n-lt1 : goal.returns-then-n-lt1
 returns-then-n-lt1 c =
     let w = c in
     let part = w.args.part.now in
-    let h : size part < 1 = omega (arith, w.wide-n.ensures) in
+    let h : size part < 1 = omega (arith, w.from-n.ensures) in
     record { test = sym (all-false _ 0 (lt-leb _ _ h)); rest = λ e. false-true e }
 
 pub returns-then-n-gt-THREADS : goal.returns-then-n-gt-THREADS
 returns-then-n-gt-THREADS c =
     let w = c in
     let part = w.args.part.now in
-    let h : 32 < size part = omega (arith, w.wide-n.ensures) in
+    let h : 32 < size part = omega (arith, w.from-n.ensures) in
     record { test = sym (all-false _ 1 (lt-leb _ _ h)); rest = λ e. false-true e }
 
 pub returns-then-not-all_zero : goal.returns-then-not-all_zero
 returns-then-not-all_zero c =
     let w = c in
-    let u = unused-part w.args.part.now w.wide-n.result w.wide-n.ensures in
+    let u = unused-part w.args.part.now w.from-n.result w.from-n.ensures in
     let z = c.all_zero.ensures ∙ ap (λ (t : List ℕ). all (zeros t)) u in
     record { test = sym (all-false _ 2 (sym z ∙ c.if-not-all_zero.true)); rest = λ e. false-true e }
 
@@ -58,7 +57,7 @@ pub returns : goal.returns
 returns c =
     let z = c in
     let b = z in
-    let w = b.wide-n in
+    let w = b.from-n in
     let a = b.args in
     let u = unused-part a.part.now w.result w.ensures in
     let m = members-part a.part.now w.result w.ensures in

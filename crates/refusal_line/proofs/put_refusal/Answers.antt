@@ -1,5 +1,4 @@
 -- `refusal_line::put_refusal` meets its contract: the longest number has room.
-use borrow.Author.Rules.{rules}
 use native.Mathlib.Omega.{arith}
 use Rattle.text.proofs.FieldLaws.{labelled-length}
 use Rattle.listing.specs.Lines.{refused_word, refused_line}
@@ -7,10 +6,10 @@ use Rattle.refusal_line.proofs.put_refusal.Goals as goal
 
 pub put_labelled-requires : goal.put_labelled-requires
 put_labelled-requires c =
-    omega (arith, labelled-length refused_word {n = c.args.status} (omega arith), c.requires)
+    omega (arith, labelled-length refused_word {n = c.from.result} (omega arith), c.requires)
 
 pub returns : goal.returns
 unfolding refused_line
 returns c =
-    let p = c.put_labelled in
-    record { put = p.ensures; upper_bound = omega (arith, p.ensures.next, labelled-length refused_word {n = c.args.status} (omega arith)) }
+    let p = rw c.from.ensures at c.put_labelled.ensures in
+    record { put = p; upper_bound = omega (arith, p.next, labelled-length refused_word {n = c.args.status} (omega arith)) }

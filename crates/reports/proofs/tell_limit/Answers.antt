@@ -2,13 +2,12 @@
 use Prim.Native.Nat.{◌+◌, ◌*◌}
 use mathlib.Core.Path.{ap, ◌∙◌, subst⁻¹}
 use native.Mathlib.Omega.{arith}
-use borrow.Author.Rules.{rules}
 use Rattle.reports.specs.Tallies.{back_tally, more_of, Tellable}
 use Rattle.reports.proofs.TellLaws.{limit-told, more_room}
 use Rattle.reports.proofs.tell_limit.Goals as goal
 
 pub add-requires : goal.add-requires
-add-requires c = (omega arith, c.requires.1.0, omega (arith, c.requires.1.1 (c.args.i * 4)))
+add-requires c = (omega arith, omega (arith, c.requires.1.1 (c.args.i * 4)))
 
 pub tell_back-requires : goal.tell_back-requires
 tell_back-requires c =

@@ -1,12 +1,11 @@
 -- `reports::tell_quantum` meets its contract.
 use mathlib.Core.Path.{◌∙◌}
 use native.Mathlib.Omega.{arith}
-use borrow.Author.Rules.{rules}
 use Rattle.reports.proofs.TellLaws.{quantum-told}
 use Rattle.reports.proofs.tell_quantum.Goals as goal
 
 pub add-requires : goal.add-requires
-add-requires c = (omega arith, c.requires.1.0, c.requires.1.1 _)
+add-requires c = (omega arith, c.requires.1.1 _)
 
 pub returns : goal.returns
 returns c = let a = c.args in c.add.ensures ∙ quantum-told a.i a.told.now

@@ -2,17 +2,14 @@
 use Prim.Native.Nat.{ℕ, ◌-◌, ◌≤◌, ◌<◌}
 use mathlib.Core.Path.{◌≡◌, refl, sym, ap, ◌∙◌}
 use mathlib.Core.List.{List}
-use lib.ListN.{length, get_or, length-set}
+use lib.ListN.{get_or, length-set}
 use native.Mathlib.Omega.{arith}
 use native.Mathlib.Decide.{ℕ_discrete}
 use Rattle.entries.specs.Entries.{slot_for, inserted}
 use Rattle.entries.proofs.InsertLaws.{slot-here, slot-earlier, slot-none}
 use Rattle.rows.specs.Rows.{slots_at, with_slots}
-use Rattle.row_entries.proofs.InsertLaws.{moved_after, moved-start, moved_before, moved-turn, moved-end}
+use Rattle.row_entries.proofs.InsertLaws.{moved-start, moved_before, moved-turn, moved-end}
 use Rattle.row_entries.proofs.insert_entry.Goals as goal
-
-pub overflow_mul-start : goal.overflow_mul-start
-overflow_mul-start c = omega arith
 
 pub loop-dues-init : goal.loop-dues-init
 loop-dues-init c =
@@ -25,52 +22,13 @@ loop-dues-init c =
       refl,
     )
 
-pub later_before-requires : goal.later_before-requires
-later_before-requires c = (omega arith, omega arith, omega arith)
-
 -- ---- a later due before slot k
 
 pub overflow_sub-dues : goal.overflow_sub-dues
 overflow_sub-dues c = omega (arith, (c.later_before.ensures.0 c.loop-dues-test.true).0)
 
-pub overflow_add-dues : goal.overflow_add-dues
-overflow_add-dues c = omega arith
-
-pub offset_bounds-dues-start : goal.offset_bounds-dues-start
-offset_bounds-dues-start c = omega arith
-
-pub bounds-dues-start : goal.bounds-dues-start
-bounds-dues-start c = omega arith
-
-pub overflow_add-dues-in-loop-dues : goal.overflow_add-dues-in-loop-dues
-overflow_add-dues-in-loop-dues c = omega arith
-
-pub offset_bounds-dues-start-in-loop-dues : goal.offset_bounds-dues-start-in-loop-dues
-offset_bounds-dues-start-in-loop-dues c = omega arith
-
-pub bounds-dues-start-in-loop-dues : goal.bounds-dues-start-in-loop-dues
-bounds-dues-start-in-loop-dues c = omega arith
-
 pub overflow_sub-amounts : goal.overflow_sub-amounts
 overflow_sub-amounts c = omega (arith, (c.later_before.ensures.0 c.loop-dues-test.true).0)
-
-pub overflow_add-amounts : goal.overflow_add-amounts
-overflow_add-amounts c = omega arith
-
-pub offset_bounds-amounts-start : goal.offset_bounds-amounts-start
-offset_bounds-amounts-start c = omega arith
-
-pub bounds-amounts-start : goal.bounds-amounts-start
-bounds-amounts-start c = omega arith
-
-pub overflow_add-amounts-in-loop-dues : goal.overflow_add-amounts-in-loop-dues
-overflow_add-amounts-in-loop-dues c = omega arith
-
-pub offset_bounds-amounts-start-in-loop-dues : goal.offset_bounds-amounts-start-in-loop-dues
-offset_bounds-amounts-start-in-loop-dues c = omega arith
-
-pub bounds-amounts-start-in-loop-dues : goal.bounds-amounts-start-in-loop-dues
-bounds-amounts-start-in-loop-dues c = omega arith
 
 pub overflow_sub-k : goal.overflow_sub-k
 overflow_sub-k c = omega (arith, (c.later_before.ensures.0 c.loop-dues-test.true).0)
@@ -97,24 +55,6 @@ loop-dues-preserved c =
     )
 
 -- ---- the slot is found
-
-pub overflow_add-dues-2 : goal.overflow_add-dues-2
-overflow_add-dues-2 c = omega arith
-
-pub offset_bounds-dues-start-2 : goal.offset_bounds-dues-start-2
-offset_bounds-dues-start-2 c = omega arith
-
-pub bounds-dues-start-2 : goal.bounds-dues-start-2
-bounds-dues-start-2 c = omega arith
-
-pub overflow_add-amounts-2 : goal.overflow_add-amounts-2
-overflow_add-amounts-2 c = omega arith
-
-pub offset_bounds-amounts-start-2 : goal.offset_bounds-amounts-start-2
-offset_bounds-amounts-start-2 c = omega arith
-
-pub bounds-amounts-start-2 : goal.bounds-amounts-start-2
-bounds-amounts-start-2 c = omega arith
 
 -- it is k: before it stands none that is later
 found : (d k n : ℕ) (ds : List ℕ) → (0 < k → get_or ds (k - 1) 0 ≤ d) → slot_for d k ds ≡ slot_for d n ds → k ≡ slot_for d n ds

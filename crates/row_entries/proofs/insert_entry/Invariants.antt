@@ -1,14 +1,10 @@
 -- `row_entries::insert_entry` meets its contract. The invariant: the numbers after slot k are moved one slot down, and the slot is the one among the first k.
-use Prim.Native.Nat.{ℕ, ◌-◌, ◌≤◌, ◌<◌}
-use mathlib.Core.Path.{◌≡◌, refl, sym, ap, ◌∙◌}
-use mathlib.Core.List.{List}
-use lib.ListN.{length, get_or, length-set}
-use native.Mathlib.Omega.{arith}
-use native.Mathlib.Decide.{ℕ_discrete}
-use Rattle.entries.specs.Entries.{slot_for, inserted}
-use Rattle.entries.proofs.InsertLaws.{slot-here, slot-earlier, slot-none}
-use Rattle.rows.specs.Rows.{slots_at, with_slots}
-use Rattle.row_entries.proofs.InsertLaws.{moved_after, moved-start, moved_before, moved-turn, moved-end}
+use Prim.Native.Nat.{◌≤◌}
+use mathlib.Core.Path.{◌≡◌}
+use lib.ListN.{length}
+use Rattle.entries.specs.Entries.{slot_for}
+use Rattle.rows.specs.Rows.{slots_at}
+use Rattle.row_entries.proofs.InsertLaws.{moved_after}
 use Rattle.row_entries.proofs.insert_entry.Given as goal
 
 abbrev pub invariant-loop-dues : goal.invariant-loop-dues

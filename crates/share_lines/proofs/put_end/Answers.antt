@@ -1,7 +1,6 @@
 -- `share_lines::put_end` meets its contract, variant by variant.
 use native.Mathlib.Omega.{arith}
 use mathlib.Core.Path.{subst}
-use borrow.Author.Rules.{rules}
 use Rattle.share_lines.specs.Bounds.{ShownShare}
 use Rattle.share_lines.proofs.LineLaws.{same_end, none_end}
 use Rattle.share_lines.proofs.put_end.Goals as goal

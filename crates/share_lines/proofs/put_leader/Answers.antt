@@ -14,14 +14,14 @@ pub put_field-at-requires : goal.put_field-at-requires
 put_field-at-requires c =
     let w = c.put_word-at in
     let s = c in
-    omega (arith, s.requires.1, s.requires.2, w.ensures.next, w.auto.out, byte-length space s.ranges.thread)
+    rw c.from.ensures (omega (arith, s.requires.1, s.requires.2, w.ensures.next, w.auto.out, byte-length space s.ranges.thread))
 
 pub put_digits-requires : goal.put_digits-requires
 put_digits-requires c =
-    let f = c.put_field-at in
+    let f = rw c.from.ensures at c.put_field-at.ensures in
     let w = c.put_word-at in
     let s = c in
-    (s.requires.0, omega (arith, s.requires.1, s.requires.2, f.ensures.next, f.auto.out, w.ensures.next, w.auto.out, byte-length space s.ranges.thread))
+    (s.requires.0, omega (arith, s.requires.1, s.requires.2, f.next, c.put_field-at.auto.out, w.ensures.next, w.auto.out, byte-length space s.ranges.thread))
 
 pub shape_of-out : goal.shape_of-out
 shape_of-out c = c.put_digits.auto.out ∙ c.put_field-at.auto.out ∙ c.put_word-at.auto.out
@@ -30,10 +30,10 @@ pub returns : goal.returns
 unfolding leader_line
 returns c =
     let e = c.put_digits in
-    let f = c.put_field-at in
+    let f = rw c.from.ensures at c.put_field-at.ensures in
     let w = c.put_word-at in
     let s = c in
     let l = byte-length space s.ranges.thread in record {
-      put = after (omega (arith, s.requires.1, s.requires.2, f.ensures.next, w.ensures.next)) (after (omega (arith, s.requires.1, s.requires.2, w.ensures.next)) w.ensures f.ensures) e.ensures.put;
-      upper_bound = omega (arith, e.ensures.upper_bound, s.requires.1, f.ensures.next, w.ensures.next);
+      put = after (omega (arith, s.requires.1, s.requires.2, f.next, w.ensures.next)) (after (omega (arith, s.requires.1, s.requires.2, w.ensures.next)) w.ensures f) e.ensures.put;
+      upper_bound = omega (arith, e.ensures.upper_bound, s.requires.1, f.next, w.ensures.next);
     }

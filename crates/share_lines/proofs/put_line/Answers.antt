@@ -1,16 +1,10 @@
 -- `share_lines::put_line` meets its contract: its word and three fields, and then the share.
-use Prim.Native.Nat.{◌+◌, ◌≤◌}
 use native.Mathlib.Omega.{arith}
-use mathlib.Core.List.{◌++◌}
 use mathlib.Core.Path.{◌∙◌}
-use lib.ListN.{length}
-use borrow.Author.Rules.{rules}
 use Rattle.text.specs.Fields.{field, space}
-use Rattle.text.specs.Placed.{Put}
 use Rattle.text.proofs.PlacedLaws.{room-b, room-c, room-d, all-four, after, length-put}
 use Rattle.text.proofs.FieldLaws.{within, ended}
 use Rattle.share_lines.specs.Lines.{share_word, share_line}
-use Rattle.share_lines.specs.Bounds.{numbers_most}
 use Rattle.share_lines.proofs.LineLaws.{numbers-most}
 use Rattle.share_lines.proofs.put_line.Goals as goal
 

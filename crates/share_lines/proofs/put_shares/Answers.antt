@@ -1,7 +1,6 @@
 -- `share_lines::put_shares` meets its contract: the threads, and then the summary.
 use mathlib.Core.Path.{◌∙◌}
 use native.Mathlib.Omega.{arith}
-use Rattle.state.specs.declared.State.{State}
 use Rattle.state.specs.Updates.{whole}
 use Rattle.share_lines.proofs.ShownLaws.{summary-shown-as}
 use Rattle.share_lines.proofs.LineLaws.{shares-after}
@@ -11,9 +10,6 @@ pub put_threads-at-requires : goal.put_threads-at-requires
 put_threads-at-requires c =
     let s = c in
     (s.requires.0, omega (arith, s.requires.1))
-
-pub summary_of-x-requires : goal.summary_of-x-requires
-summary_of-x-requires c = tt
 
 pub put_summary-requires : goal.put_summary-requires
 put_summary-requires c =

@@ -1,7 +1,6 @@
 -- `share_lines::put_summary` meets its contract: one line after the other, or none.
 use native.Mathlib.Omega.{arith}
 use mathlib.Core.Path.{◌∙◌, subst}
-use borrow.Author.Rules.{rules}
 use Rattle.text.proofs.PlacedLaws.{after}
 use Rattle.share_lines.specs.Lines.{summary_lines}
 use Rattle.share_lines.specs.Bounds.{ShownSummary}

@@ -1,11 +1,6 @@
 -- `share_summary::summary_of` meets its contract: the refusal, no time, and the shares of the leading threads.
-use Prim.Native.Nat.{ℕ}
-use mathlib.Core.Bool.{true}
-use mathlib.Core.Path.{◌≡◌, sym, ap, ◌∙◌}
+use mathlib.Core.Path.{sym, ap, ◌∙◌}
 use native.Mathlib.Omega.{arith}
-use borrow.Author.Rules.{rules}
-use Rattle.state.specs.declared.State.{State}
-use Rattle.state.specs.Sound.{sound_state}
 use Rattle.state.specs.Updates.{whole}
 use Rattle.share_summary.specs.declared.Leaders.{Leaders}
 use Rattle.share_summary.specs.declared.Summarized.TheVariants as summarized
@@ -18,7 +13,8 @@ use Rattle.share_summary.proofs.summary_of.Goals as goal
 
 pub returns-then-not-sound : goal.returns-then-not-sound
 returns-then-not-sound c =
-    sym (summary-unsound (whole c.args.c c.args.dues.now c.args.amounts.now) (sym c.sound.ensures ∙ c.if-not-sound.true))
+    ap summarized.Refused c.from.ensures
+    ∙ sym (summary-unsound (whole c.args.c c.args.dues.now c.args.amounts.now) (sym c.sound.ensures ∙ c.if-not-sound.true))
 
 pub overflow_sub-elapsed : goal.overflow_sub-elapsed
 overflow_sub-elapsed c = (times (whole c.args.c c.args.dues.now c.args.amounts.now) 0 (sym c.sound.ensures ∙ c.if-not-sound.false)).order
@@ -26,6 +22,9 @@ overflow_sub-elapsed c = (times (whole c.args.c c.args.dues.now c.args.amounts.n
 pub returns-then-elapsed-eq0 : goal.returns-then-elapsed-eq0
 returns-then-elapsed-eq0 c =
     sym (summary-none (whole c.args.c c.args.dues.now c.args.amounts.now) (sym c.sound.ensures ∙ c.if-not-sound.false) c.if-elapsed-eq0.true)
+
+pub overflow_cast-c : goal.overflow_cast-c
+overflow_cast-c c = omega (arith, (times (whole c.args.c c.args.dues.now c.args.amounts.now) 0 (sym c.sound.ensures ∙ c.if-not-sound.false)).few)
 
 pub leading-l-requires : goal.leading-l-requires
 leading-l-requires c = omega (arith, (times (whole c.args.c c.args.dues.now c.args.amounts.now) 0 (sym c.sound.ensures ∙ c.if-not-sound.false)).few)

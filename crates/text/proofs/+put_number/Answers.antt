@@ -1,5 +1,5 @@
 -- `text::put_number` meets its contract: the digits of a tenth, and then the last one.
-use mathlib.Core.Path.{ap, ◌∙◌}
+use mathlib.Core.Path.{ap}
 use native.Mathlib.Omega.{arith}
 use lib.ListN.{length}
 use Rattle.text.proofs.DecimalLaws.{small, large, longer}

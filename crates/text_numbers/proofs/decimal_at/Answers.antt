@@ -1,14 +1,14 @@
--- `text_lines::number_at` meets its contract: the bytes passed are the digits of a number that is right so far.
+-- `text_numbers::decimal_at` meets its contract: the bytes passed are the digits of a number that is right so far.
 use Prim.Native.Nat.{ℕ, ◌+◌, ◌*◌, ◌-◌, ◌≤◌, ◌<◌}
 use mathlib.Core.Bool.{Bool, true, false}
 use mathlib.Core.List.{List}
+use Rattle.std.specs.Prelude.{Some, None}
 use mathlib.Core.Path.{◌≡◌, refl, sym, ap, ◌∙◌, subst}
 use native.Mathlib.Omega.{arith}
 use lib.ListN.{length, get_or, drop, length-drop}
 use lib.Seq.{get_or-drop}
-use borrow.Author.Tests.{not-true, not-false, leb-true, leb-false}
+use borrow.Author.Tests.{leb-true, leb-false}
 use lib.Dec.{leb}
-use Rattle.text_numbers.specs.declared.Number.TheVariants as number
 use Rattle.text_numbers.specs.Numbers.{decimal_at, digit}
 use Rattle.text_numbers.proofs.NumberLaws.{digit-range, found, not_found, Scanned, scan-none, scan-next, scan-no-digit, scan-other-end, scan-zero-leads, scan-too-large, scan-found, scan-over}
 use Rattle.text_numbers.proofs.decimal_at.Goals as goal
@@ -31,30 +31,24 @@ above i place l n = go (leb i place) refl
 pub loop-i-init : goal.loop-i-init
 loop-i-init c = let p = c.args.place in let z : p - p ≡ 0 = omega arith in (omega arith, rw z (scan-none _ _))
 
-pub bounds-text-i : goal.bounds-text-i
-bounds-text-i c = omega arith
-
-pub is_digit-requires : goal.is_digit-requires
-is_digit-requires c = tt
-
 module _ (s : List ℕ) (place most end value i : ℕ) (l : place ≤ i) (p : Scanned most (drop place s) (i - place) value) (h : i < length s) where
-  none_here : digit (get_or s i 0) ≡ false → i ≡ place → number.Nothing ≡ decimal_at most end s place
+  none_here : digit (get_or s i 0) ≡ false → i ≡ place → None ≡ decimal_at most end s place
   none_here d z = not_found most end s place (scan-no-digit most end _ _ value p (within s place i l h) (rw (byte-from s place i l) d) (omega arith))
 
-  other-here : digit (get_or s i 0) ≡ false → (get_or s i 0 ≡ end → ⊥) → number.Nothing ≡ decimal_at most end s place
+  other-here : digit (get_or s i 0) ≡ false → (get_or s i 0 ≡ end → ⊥) → None ≡ decimal_at most end s place
   other-here d n =
       not_found most end s place
       (scan-other-end most end _ _ value p (within s place i l h) (rw (byte-from s place i l) d) (λ e. n (sym (byte-from s place i l) ∙ e)))
 
-  value-here : digit (get_or s i 0) ≡ false → (i ≡ place → ⊥) → get_or s i 0 ≡ end → number.Value value (i + 1) ≡ decimal_at most end s place
+  value-here : digit (get_or s i 0) ≡ false → (i ≡ place → ⊥) → get_or s i 0 ≡ end → Some (value, i + 1) ≡ decimal_at most end s place
   value-here d n e =
       let f = scan-found most end _ _ value p (within s place i l h) (rw (byte-from s place i l) d) (above i place l n) (byte-from s place i l ∙ e) in
       found most end s place value (i + 1) f.0 f.1.0 (omega (arith, f.1.1))
 
-  zero-here : digit (get_or s i 0) ≡ true → place < i → value ≡ 0 → number.Nothing ≡ decimal_at most end s place
+  zero-here : digit (get_or s i 0) ≡ true → place < i → value ≡ 0 → None ≡ decimal_at most end s place
   zero-here d g z = not_found most end s place (scan-zero-leads most end _ _ value p (within s place i l h) (rw (byte-from s place i l) d) (omega arith) z)
 
-  large-here : digit (get_or s i 0) ≡ true → most < value * 10 + (get_or s i 0 - 48) → number.Nothing ≡ decimal_at most end s place
+  large-here : digit (get_or s i 0) ≡ true → most < value * 10 + (get_or s i 0 - 48) → None ≡ decimal_at most end s place
   large-here d m =
       not_found most end s place
       (scan-too-large most end _ _ value p (within s place i l h) (rw (byte-from s place i l) d) (rw (byte-from s place i l) m))
@@ -83,9 +77,6 @@ returns-then-b-end c =
     let d = c.is_digit in
     other-here a.text.now a.place a.most a.end w.value w.i w.invariant.0 w.invariant.1 h (sym d.ensures ∙ c.if-not-is_digit.true) c.if-b-end.true
 
-pub overflow_add-result : goal.overflow_add-result
-overflow_add-result c = omega arith
-
 pub returns-then-not-is_digit : goal.returns-then-not-is_digit
 returns-then-not-is_digit c =
     let a = c.args in
@@ -111,9 +102,6 @@ overflow_sub-b c =
     let r = digit-range (get_or a.text.now w.i 0) (sym d.ensures ∙ c.if-not-is_digit.false) in
     omega arith
 
-pub wide-d-requires : goal.wide-d-requires
-wide-d-requires c = tt
-
 pub returns-then-most-d : goal.returns-then-most-d
 returns-then-most-d c =
     let a = c.args in
@@ -121,7 +109,7 @@ returns-then-most-d c =
     let h = c.loop-i-test.true in
     let d = c.is_digit in
     let r = digit-range (get_or a.text.now w.i 0) (sym d.ensures ∙ c.if-not-is_digit.false) in
-    large-here a.text.now a.place a.most a.end w.value w.i w.invariant.0 w.invariant.1 h (sym d.ensures ∙ c.if-not-is_digit.false) (omega (arith, c.wide-d.ensures, c.if-most-d.true))
+    large-here a.text.now a.place a.most a.end w.value w.i w.invariant.0 w.invariant.1 h (sym d.ensures ∙ c.if-not-is_digit.false) (omega (arith, c.from-d.ensures, c.if-most-d.true))
 
 pub returns-then-most-d-2 : goal.returns-then-most-d-2
 returns-then-most-d-2 c =
@@ -130,7 +118,7 @@ returns-then-most-d-2 c =
     let h = c.loop-i-test.true in
     let d = c.is_digit in
     let r = digit-range (get_or a.text.now w.i 0) (sym d.ensures ∙ c.if-not-is_digit.false) in
-    large-here a.text.now a.place a.most a.end w.value w.i w.invariant.0 w.invariant.1 h (sym d.ensures ∙ c.if-not-is_digit.false) (omega (arith, c.wide-d.ensures, c.if-most-d-2.true))
+    large-here a.text.now a.place a.most a.end w.value w.i w.invariant.0 w.invariant.1 h (sym d.ensures ∙ c.if-not-is_digit.false) (omega (arith, c.from-d.ensures, c.if-most-d-2.true))
 
 pub overflow_mul-value : goal.overflow_mul-value
 overflow_mul-value c =
@@ -139,7 +127,7 @@ overflow_mul-value c =
     let h = c.loop-i-test.true in
     let d = c.is_digit in
     let r = digit-range (get_or a.text.now w.i 0) (sym d.ensures ∙ c.if-not-is_digit.false) in
-    omega (arith, c.wide-d.ensures, c.if-most-d-2.false, c.ranges.most.fits)
+    omega (arith, c.from-d.ensures, c.if-most-d-2.false, c.ranges.most.fits)
 
 pub overflow_add-value : goal.overflow_add-value
 overflow_add-value c =
@@ -148,13 +136,7 @@ overflow_add-value c =
     let h = c.loop-i-test.true in
     let d = c.is_digit in
     let r = digit-range (get_or a.text.now w.i 0) (sym d.ensures ∙ c.if-not-is_digit.false) in
-    omega (arith, c.wide-d.ensures, c.if-most-d-2.false, c.if-most-d.false, c.ranges.most.fits)
-
-pub overflow_add-i : goal.overflow_add-i
-overflow_add-i c = omega arith
-
-pub loop-i-smaller : goal.loop-i-smaller
-loop-i-smaller c = omega arith
+    omega (arith, c.from-d.ensures, c.if-most-d-2.false, c.if-most-d.false, c.ranges.most.fits)
 
 pub loop-i-preserved : goal.loop-i-preserved
 loop-i-preserved c =
@@ -164,10 +146,10 @@ loop-i-preserved c =
     let d = c.is_digit in
     let r = digit-range (get_or a.text.now w.i 0) (sym d.ensures ∙ c.if-not-is_digit.false) in (
       omega arith,
-      subst (λ (v : ℕ). Scanned a.most (drop a.place a.text.now) (w.i + 1 - a.place) (w.value * 10 + v)) (sym c.wide-d.ensures)
+      subst (λ (v : ℕ). Scanned a.most (drop a.place a.text.now) (w.i + 1 - a.place) (w.value * 10 + v)) (sym c.from-d.ensures)
           (next_here a.text.now a.place a.most a.end w.value w.i w.invariant.0 w.invariant.1 h (sym d.ensures ∙ c.if-not-is_digit.false)
           (λ g z. elim c.if-place-i.branch [ then-place-i+else-value-eq0 q ↦ q.if-value-eq0.false z | else-place-i q ↦ let l = q.if-place-i.false in omega arith ])
-          (omega (arith, c.wide-d.ensures, c.if-most-d-2.false, c.if-most-d.false))),
+          (omega (arith, c.from-d.ensures, c.if-most-d-2.false, c.if-most-d.false))),
     )
 
 pub returns : goal.returns

@@ -1,14 +1,13 @@
--- `text_lines::is_digit` meets its contract.
-use mathlib.Core.Path.{sym}
-use borrow.Author.Tests.{lt-leb, le-leb}
+-- `text_numbers::is_digit` meets its contract.
+use Rattle.std.proofs.Common.{◌≡◌, Bool, true, false, cond, ◌&&◌, leb, refl, ◌∙◌}
 use Rattle.base.specs.Tests.{all}
 use Rattle.base.proofs.TestLaws.{all_one}
 use Rattle.text_numbers.proofs.is_digit.Goals as goal
 
-pub returns-then-b-lt48 : goal.returns-then-b-lt48
-unfolding all
-returns-then-b-lt48 c = rw (lt-leb 48 _ c.if-b-lt48.true)
+two-tests : (x y : Bool) → x && y ≡ cond x y false
+two-tests true y = refl
+two-tests false y = refl
 
 pub returns : goal.returns
 unfolding all
-returns c = rw (le-leb 48 _ c.if-b-lt48.false) (sym (all_one _))
+returns c = rw (all_one _) (c.is_ascii_digit.ensures.value ∙ two-tests (leb 48 c.args.b) (leb c.args.b 57))

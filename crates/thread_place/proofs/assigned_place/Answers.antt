@@ -3,7 +3,6 @@ use Prim.Native.Nat.{ℕ, ◌≤◌, ◌<◌}
 use native.Mathlib.Omega.{arith}
 use mathlib.Core.Bool.{false}
 use mathlib.Core.Path.{◌≡◌, refl, sym, ◌∙◌}
-use borrow.Author.Rules.{rules}
 use borrow.Author.Tests.{lt-ltb, le-ltb}
 use Rattle.base.proofs.TestLaws.{cond-true, cond-false}
 use Rattle.sporadic.specs.Rules.{at_upper}
@@ -26,8 +25,8 @@ module _ (t : Thread) (count : ℕ) where
 pub returns-then-t-gt0 : goal.returns-then-t-gt0
 returns-then-t-gt0 c = let a = c.args in none a.t a.count (refl {a = 0}) c.if-t-gt0.true
 
-pub returns-then-p-lt2 : goal.returns-then-p-lt2
-returns-then-p-lt2 c = simp (le-ltb _ _ c.if-t-gt0.false) (sym (policy-low _ _ _ c.if-p-lt2.true))
+pub returns-then-p-lt-SCHED_SPORADIC : goal.returns-then-p-lt-SCHED_SPORADIC
+returns-then-p-lt-SCHED_SPORADIC c = simp (le-ltb _ _ c.if-t-gt0.false) (sym (policy-low _ _ _ c.if-p-lt-SCHED_SPORADIC.true))
 
 pub returns-then-at_upper : goal.returns-then-at_upper
 returns-then-at_upper c =

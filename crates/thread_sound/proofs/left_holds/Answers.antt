@@ -26,19 +26,19 @@ module _ (t : Thread) where
   other : (t.parameters.policy ≡ 1 → ⊥) → left_tests t ≡ zero
   other h = policy-not-rr t.parameters.policy zero range h
 
-pub returns-then-t-ne1 : goal.returns-then-t-ne1
+pub returns-then-t-ne-SCHED_RR : goal.returns-then-t-ne-SCHED_RR
 unfolding all
-returns-then-t-ne1 c =
+returns-then-t-ne-SCHED_RR c =
     let t = c.args.t in
-    sym (ap all (other t c.if-t-ne1.true) ∙ all_one (eqb t.left 0))
+    sym (ap all (other t c.if-t-ne-SCHED_RR.true) ∙ all_one (eqb t.left 0))
 
 pub returns-then-t-lt1 : goal.returns-then-t-lt1
 returns-then-t-lt1 c =
     let t = c.args.t in
-    sym (ap all (rr t c.if-t-ne1.false) ∙ all-false _ 0 (lt-leb 1 t.left c.if-t-lt1.true))
+    sym (ap all (rr t c.if-t-ne-SCHED_RR.false) ∙ all-false _ 0 (lt-leb 1 t.left c.if-t-lt1.true))
 
 pub returns : goal.returns
 unfolding all
 returns c =
     let t = c.args.t in
-    sym (ap all (rr t c.if-t-ne1.false) ∙ simp (le-leb 1 t.left c.if-t-lt1.false, all_one))
+    sym (ap all (rr t c.if-t-ne-SCHED_RR.false) ∙ simp (le-leb 1 t.left c.if-t-lt1.false, all_one))

@@ -2,7 +2,6 @@
 use Prim.Native.Nat.{◌≤◌, ◌<◌}
 use mathlib.Core.Path.{sym, ◌∙◌}
 use native.Mathlib.Omega.{arith}
-use borrow.Author.Rules.{rules}
 use borrow.Author.Tests.{eq-eqb, ne_eqb, le-leb, lt-leb}
 use Rattle.base.proofs.TestLaws.{all-false}
 use Rattle.state.specs.Sound.{present_fields}
@@ -12,8 +11,8 @@ use Rattle.thread_sound.proofs.present_fields.Goals as goal
 pub returns-then-not-in_range : goal.returns-then-not-in_range
 returns-then-not-in_range c = sym (all-false _ 0 (sym c.in_range.ensures ∙ c.if-not-in_range.true))
 
-pub returns-then-p-ne0 : goal.returns-then-p-ne0
-returns-then-p-ne0 c = sym (all-false _ 1 (ne_eqb _ _ c.if-p-ne0.true))
+pub returns-then-t-ne0 : goal.returns-then-t-ne0
+returns-then-t-ne0 c = sym (all-false _ 1 (ne_eqb _ _ c.if-t-ne0.true))
 
 pub returns-then-t-gt1 : goal.returns-then-t-gt1
 returns-then-t-gt1 c =
@@ -23,9 +22,7 @@ returns-then-t-gt1 c =
 
 pub returns : goal.returns
 returns c =
-    let b = c in
-    let d = b in
-    let t = d.args.t in
+    let t = c.args.t in
     let h : t.blocked ≤ 1 = omega (arith, c.if-t-gt1.false) in
     by_last (present_fields t) c.left_holds.ensures
-    ((sym d.in_range.ensures ∙ d.if-not-in_range.false) and eq-eqb _ _ b.if-p-ne0.false and le-leb t.blocked 1 h and tt)
+    ((sym c.in_range.ensures ∙ c.if-not-in_range.false) and eq-eqb _ _ c.if-t-ne0.false and le-leb t.blocked 1 h and tt)

@@ -4,7 +4,6 @@ use mathlib.Core.Bool.{Bool, true, false, cond}
 use mathlib.Core.Path.{◌≡◌, sym, ap, ap₂, ◌∙◌}
 use mathlib.Core.List.{List, [], ◌∷◌}
 use native.Mathlib.Omega.{arith}
-use borrow.Author.Rules.{rules}
 use borrow.Author.Tests.{eq-eqb, ne_eqb}
 use lib.ListN.{take, drop, get_or}
 use lib.Dec.{eqb}
@@ -68,42 +67,32 @@ returns-then-not-present_fields c =
     let q = pending_of a.counts.now a.dues.now a.amounts.now a.i in
     refused a.start a.time a.t q (sym c.present_fields.ensures ∙ c.if-not-present_fields.true)
 
-pub returns-then-p-gt1 : goal.returns-then-p-gt1
-returns-then-p-gt1 c =
-    let l = c in
-    let i = l in
-    let a = i.args in
+pub returns-then-t-gt-SCHED_RR : goal.returns-then-t-gt-SCHED_RR
+returns-then-t-gt-SCHED_RR c =
+    let a = c.args in
     let q = pending_of a.counts.now a.dues.now a.amounts.now a.i in
-    some a.start a.time a.t q _ (sym i.present_fields.ensures ∙ i.if-not-present_fields.false) l.if-p-gt1.true
+    some a.start a.time a.t q _ (sym c.present_fields.ensures ∙ c.if-not-present_fields.false) c.if-t-gt-SCHED_RR.true
     (judged a.start a.time a.t a.counts.now a.dues.now a.amounts.now a.i c.sound_lent.ensures)
 
 pub returns-then-not-no_server : goal.returns-then-not-no_server
 returns-then-not-no_server c =
-    let l = c in
-    let i = l in
-    let a = i.args in
+    let a = c.args in
     let q = pending_of a.counts.now a.dues.now a.amounts.now a.i in
-    none a.start a.time a.t q _ (sym i.present_fields.ensures ∙ i.if-not-present_fields.false) l.if-p-gt1.false
+    none a.start a.time a.t q _ (sym c.present_fields.ensures ∙ c.if-not-present_fields.false) c.if-t-gt-SCHED_RR.false
     (sym (all_append (server_tests a.t.server) _ ∙ cond-false _ _ _ (sym c.no_server.ensures ∙ c.if-not-no_server.true)))
 
 pub returns-then-counts-i-ne0 : goal.returns-then-counts-i-ne0
 returns-then-counts-i-ne0 c =
-    let l = c in
-    let i = l in
-    let a = i.args in
+    let a = c.args in
     let q = pending_of a.counts.now a.dues.now a.amounts.now a.i in
-    none a.start a.time a.t q _ (sym i.present_fields.ensures ∙ i.if-not-present_fields.false) l.if-p-gt1.false
+    none a.start a.time a.t q _ (sym c.present_fields.ensures ∙ c.if-not-present_fields.false) c.if-t-gt-SCHED_RR.false
     (sym (all-false (no_account_tests a.t.server q) 3 (ne_eqb _ _ c.if-counts-i-ne0.true)))
 
 pub returns : goal.returns
 returns c =
-    let z = c in
-    let v = z in
-    let l = v in
-    let i = l in
-    let a = i.args in
+    let a = c.args in
     let q = pending_of a.counts.now a.dues.now a.amounts.now a.i in
-    none a.start a.time a.t q _ (sym i.present_fields.ensures ∙ i.if-not-present_fields.false) l.if-p-gt1.false
+    none a.start a.time a.t q _ (sym c.present_fields.ensures ∙ c.if-not-present_fields.false) c.if-t-gt-SCHED_RR.false
     (c.clear_slots.ensures
     ∙ ap₂ (λ (ds xs : List ℕ). all (all (zeros ds) ∷ all (zeros xs) ∷ [])) (lent a.i a.dues.now) (lent a.i a.amounts.now)
-    ∙ slots a.start a.time a.t q (sym v.no_server.ensures ∙ v.if-not-no_server.false) z.if-counts-i-ne0.false)
+    ∙ slots a.start a.time a.t q (sym c.no_server.ensures ∙ c.if-not-no_server.false) c.if-counts-i-ne0.false)

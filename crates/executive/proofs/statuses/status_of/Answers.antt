@@ -1,19 +1,27 @@
 -- `executive::statuses::status_of` meets its contract.
-use borrow.Author.Rules.{rules}
 use Prim.Native.Nat.{ℕ}
 use mathlib.Core.Bool.{false}
-use mathlib.Core.Path.{sym, ap, ◌∙◌}
+use Rattle.std.proofs.Common.{rules}
+use mathlib.Core.Path.{◌≡◌, sym, ap, ◌∙◌}
 use lib.Dec.{eqb}
-use Rattle.events.specs.Answers.{state_status_of}
+use Rattle.base.specs.Status.{as_status, number_of}
 use Rattle.base.proofs.RefusalLaws.{given-first, given-second}
+use Rattle.events.specs.Answers.{state_status_of}
+use Rattle.events.proofs.RefusedLaws.{refused}
+use Rattle.executive.specs.Private.{early_status}
 use Rattle.executive.proofs.statuses.status_of.Goals as goal
 
-pub returns-then-early-ne0 : goal.returns-then-early-ne0
-returns-then-early-ne0 c = let f = c.early_status-early.ensures in f ∙ sym (given-first _ _ (λ z. c.if-early-ne0.true (f ∙ z)))
+pub returns-in_err-early_status : goal.returns-in_err-early_status
+returns-in_err-early_status c =
+    let a = c.args in
+    let r = c.in_err-early_status.field-0.0 in
+    let f : number_of r ≡ early_status a.n a.now a.e = c.in_err-early_status.ensures in
+    let w : as_status c.from_residual.result ≡ number_of r = search rules in
+    w ∙ f ∙ sym (given-first _ _ (λ z. refused r (f ∙ z)))
 
 pub returns : goal.returns
 returns c =
     let a = c.args in
     c.state_status.ensures
     ∙ ap (λ (p : ℕ). state_status_of a.e.kind (eqb p 0) a.blocked false) c.highest-level.ensures
-    ∙ sym (given-second _ _ (sym c.early_status-early.ensures ∙ c.if-early-ne0.false))
+    ∙ sym (given-second _ _ (sym c.in_ok-early_status.ensures))

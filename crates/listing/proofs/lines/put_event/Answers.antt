@@ -7,10 +7,11 @@ use Rattle.listing.proofs.lines.put_event.Goals as goal
 pub put_row-requires : goal.put_row-requires
 unfolding event_line
 put_row-requires c =
-    within c.args.at (event-length c.args.i c.requires.0 c.ranges.status c.ranges.running c.ranges.next) c.requires.1
+    simp (c.from.ensures, c.from-2.ensures) (within c.args.at (event-length c.args.i c.requires.0 c.ranges.status c.ranges.running c.ranges.next) c.requires.1)
 
 pub returns : goal.returns
 unfolding event_line
 returns c =
-    let y = ended (event-length c.args.i c.requires.0 c.ranges.status c.ranges.running c.ranges.next) c.put_row.ensures in
+    let p = simp (c.from.ensures, c.from-2.ensures) at c.put_row.ensures in
+    let y = ended (event-length c.args.i c.requires.0 c.ranges.status c.ranges.running c.ranges.next) p in
     record { put = y.0; upper_bound = y.1 }

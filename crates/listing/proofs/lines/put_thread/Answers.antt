@@ -18,14 +18,15 @@ unfolding thread_line
 put_row-requires c =
     let a = c.args in
     let h = within a.at (thread-length a.i c.requires.0 c.ranges.capacity c.ranges.count c.ranges.total) c.requires.1 in
-    room-second a.out.now a.at thread_word (row a.i a.capacity a.count a.total) h c.put_word-here.ensures
+    rw c.from.ensures (room-second a.out.now a.at thread_word (row a.i a.capacity a.count a.total) h c.put_word-here.ensures)
 
 pub returns : goal.returns
 unfolding thread_line
 returns c =
     let a = c.args in
     let l = thread-length a.i c.requires.0 c.ranges.capacity c.ranges.count c.ranges.total in
+    let p = rw c.from.ensures at c.put_row.ensures in
     let y =
     ended l
-    (both a.out.now a.at thread_word (row a.i a.capacity a.count a.total) (within a.at l c.requires.1) c.put_word-here.ensures c.put_row.ensures) in
+    (both a.out.now a.at thread_word (row a.i a.capacity a.count a.total) (within a.at l c.requires.1) c.put_word-here.ensures p) in
     record { put = y.0; upper_bound = y.1 }

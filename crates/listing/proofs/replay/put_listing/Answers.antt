@@ -1,7 +1,8 @@
 -- `listing::replay::put_listing` meets its contract: the line of the refusal, or the parts of a replay one after another.
 use native.Mathlib.Omega.{arith}
 use Rattle.replay_steps.specs.FileSteps.{begun_with}
-use Rattle.listing.specs.Lines.{refused_line}
+use Rattle.text.proofs.FieldLaws.{labelled-length}
+use Rattle.listing.specs.Lines.{refused_word, refused_line}
 use Rattle.listing.proofs.PrintLaws.{few}
 use Rattle.listing.proofs.ListingLaws.{refusal-put, replay-put}
 use Rattle.listing.proofs.replay.put_listing.Goals as goal
@@ -9,12 +10,15 @@ use Rattle.listing.proofs.replay.put_listing.Goals as goal
 pub returns-then-begun-ne0 : goal.returns-then-begun-ne0
 unfolding refused_line
 returns-then-begun-ne0 c =
-    let p = c.put_labelled in
+    let p = rw c.from.ensures at c.put_labelled.ensures in
     let b = c.begin-begun in
     record {
-      put = refusal-put c.args.file.now (begun_with b.result b.new.dues b.new.amounts) b.ensures.amounts_after c.if-begun-ne0.true p.ensures.put;
-      upper_bound = omega (arith, p.ensures.upper_bound);
+      put = refusal-put c.args.file.now (begun_with b.result b.new.dues b.new.amounts) b.ensures.amounts_after c.if-begun-ne0.true p;
+      upper_bound = omega (arith, p.next, labelled-length refused_word {n = b.result.status} (omega arith));
     }
+
+pub put_labelled-requires : goal.put_labelled-requires
+put_labelled-requires c = omega (arith, c.requires, labelled-length refused_word {n = c.from.result} (omega arith))
 
 pub put_events-ended-requires : goal.put_events-ended-requires
 put_events-ended-requires c = (

@@ -3,7 +3,7 @@ use mathlib.Core.Path.{ap, ◌∙◌}
 use native.Mathlib.Omega.{arith}
 use Rattle.passing.specs.Sequence.{Answer}
 use Rattle.state.specs.declared.State.{State}
-use Rattle.replay_steps.specs.FileSteps.{Beginning, begun_with}
+use Rattle.replay_steps.specs.FileSteps.{begun_with}
 use Rattle.replay_steps.proofs.LastLaws.{last-state}
 use Rattle.share_listing.proofs.ListingLaws.{refusal-put, shares-put}
 use Rattle.share_listing.proofs.ending.put_listing.Goals as goal

@@ -1,2 +1,0 @@
--- The law that the proofs of `check_listing` cite.
-pub mod LineLaws

@@ -1,0 +1,2 @@
+-- What a reader of `command` must believe.
+pub mod Ends
