@@ -6,7 +6,7 @@ use Rattle.base.proofs.TestLaws.{cond-elim, false-true}
 use Rattle.records.specs.declared.Parameters.{Parameters}
 use Rattle.sporadic.specs.declared.Server.{Server}
 use Rattle.sporadic.specs.declared.Effect.{Effect}
-use Rattle.sporadic.specs.Rules.{scheduled, limit_effect, block_effect, return_effect}
+use Rattle.sporadic.specs.Rules.{at_upper, scheduled, limit_effect, block_effect, wake_effect, return_effect}
 use Rattle.account.specs.Rules.{Room, Schedulable}
 use Rattle.sporadic.proofs.EffectLaws.{schedule-elim, at-limit-elim, limit-elim, return-elim}
 
@@ -28,6 +28,11 @@ module _ (now : ℕ) (p : Parameters) (s : Server) where
 
     pub block_room : (count : ℕ) → Schedulable p s count → Room (block_effect now b p s).first (block_effect now b p s).amount count
     block_room count h = cond-elim (λ (e : Effect). Room e.first e.amount count) b _ _ (λ e. adds_none count) (λ e. schedule-room count h)
+
+    pub wake-room : (count : ℕ) → Room (wake_effect now b p count s).first (wake_effect now b p count s).amount count
+    wake-room count =
+        let R : Effect → Type 0 = λ e. Room e.first e.amount count in
+        cond-elim R b _ _ (λ e. cond-elim R (at_upper p s.capacity count) _ _ (λ d. adds_none count) (λ d. adds_none count)) (λ e. adds_none count)
 
     pub return-room : (count amount : ℕ) → Room (return_effect now b p count amount s).first (return_effect now b p count amount s).amount count
     return-room count amount =

@@ -1,2 +1,3 @@
 -- Laws of the entries.
+pub mod SlotLaws
 pub mod InsertLaws

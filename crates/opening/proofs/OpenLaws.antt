@@ -3,7 +3,7 @@ use Prim.Native.Nat.{ℕ, ◌+◌, ◌≤◌, ◌<◌}
 use mathlib.Core.Bool.{Bool, true, false, cond, ◌&&◌}
 use mathlib.Core.Path.{◌≡◌, sym, ap, ◌∙◌, subst⁻¹, ap₂}
 use mathlib.Core.List.{List}
-use lib.ListN.{get_or, replicate}
+use lib.ListN.{length, get_or, replicate}
 use lib.Dec.{leb, eqb}
 use native.Mathlib.Omega.{arith}
 use native.Mathlib.Numerals.{add-one}
@@ -12,7 +12,7 @@ use Rattle.records.specs.declared.Parameters.{Parameters}
 use Rattle.records.specs.declared.Header.{Header}
 use Rattle.base.specs.Tests.{below}
 use Rattle.records.specs.Ranges.{in_range, no_parameters}
-use Rattle.base.proofs.TestLaws.{all_true, below_at, cond-true, cond-false, false-true, never_true}
+use Rattle.base.proofs.TestLaws.{tests, all_true, below_at, cond-true, cond-false, false-true, never_true}
 use Rattle.ready.specs.Word.{occupancy}
 use Rattle.ready.specs.Rules.{Joinable}
 use Rattle.ready.proofs.SoundLaws.{joinable}
@@ -96,7 +96,7 @@ module _ (header : Header) (table : List Parameters) (z : open_status header tab
 
   -- once k threads have entered, the next one can
   pub next-enters : (k : ℕ) → k < header.n → (s : State) → s ≡ entered_below k table (empty_state header)
-      → (k < 32) × (s.word ≡ occupancy s.lists)
+      → (k < 32) × (length s.dues ≡ 256) × (length s.amounts ≡ 256) × (s.word ≡ occupancy s.lists)
       × (eqb (get_or table k no_parameters).flag 0 ≡ false → Joinable s.word (get_or table k no_parameters).priority s.lists)
   next-enters k l s e = go (subst⁻¹ (Entered k) e (below-entered header accepted.1 table k (omega (arith, few)) (λ i m. in-range i (omega arith))))
     where
@@ -107,11 +107,13 @@ module _ (header : Header) (table : List Parameters) (z : open_status header tab
       range = priority-range p (in-range k l)
 
       go : Entered k s
-          → (k < 32) × (s.word ≡ occupancy s.lists)
+          → (k < 32) × (length s.dues ≡ 256) × (length s.amounts ≡ 256) × (s.word ≡ occupancy s.lists)
           × (eqb p.flag 0 ≡ false → Joinable s.word p.priority s.lists)
       go h =
           let m : k < 32 = omega (arith, few) in (
             m,
+            omega (tests, h.sizes),
+            omega (tests, h.sizes),
             h.lists.agrees,
             λ f. joinable (place s) s.word s.lists h.lists p.priority range.0 range.1 k m
                 (λ y. omega (arith, unplaced k s h m p (in-range k l), range.0)),

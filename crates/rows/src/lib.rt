@@ -28,14 +28,17 @@ pub fn clear(xs: &mut Slots)
     *xs = [0u64; SLOTS];
 }
 
-// Thread i's slots.
+// Thread i's slots. Here and in `write_row` a loop over a known length becomes a few moves in its caller; a copy of a part of the slice stays a call,
+// which a moment feels.
 pub fn read_row(xs: &Slots, i: usize) -> [u64; ENTRIES]
     requires { i < most_threads }
     ensures { result ≡ slots_at i xs.now }
 {
     let mut row = [0u64; ENTRIES];
     let from = i * ENTRIES;
-    row.copy_from_slice(&xs[from..from + ENTRIES]);
+    for j in 0..ENTRIES {
+        row[j] = xs[from + j];
+    }
     row
 }
 
@@ -45,5 +48,7 @@ pub fn write_row(xs: &mut Slots, i: usize, row: [u64; ENTRIES])
     ensures { xs.new ≡ with_slots i row xs.old }
 {
     let at = i * ENTRIES;
-    xs[at..at + ENTRIES].copy_from_slice(&row);
+    for j in 0..ENTRIES {
+        xs[at + j] = row[j];
+    }
 }

@@ -27,10 +27,11 @@ pub enter-s-requires : goal.enter-s-requires
 enter-s-requires c =
     let a = c.args in
     let s = whole c.loop-k.s c.loop-k.dues c.loop-k.amounts in
+    let n = next-enters a.header a.table c.requires.0 c.loop-k.k c.loop-k-test.true s c.loop-k.invariant in
     subst⁻¹
     (λ (i : ℕ). (c.loop-k.k < 32) × (s.word ≡ occupancy s.lists)
     × (eqb (get_or a.table i no_parameters).flag 0 ≡ false → Joinable s.word (get_or a.table i no_parameters).priority s.lists))
-    c.from.ensures (next-enters a.header a.table c.requires.0 c.loop-k.k c.loop-k-test.true s c.loop-k.invariant)
+    c.from.ensures (n.0, n.3, n.4)
 
 pub loop-k-preserved : goal.loop-k-preserved
 loop-k-preserved c =

@@ -1,16 +1,18 @@
 -- `rows::write_row` meets its contract.
-use Prim.Native.Nat.{ℕ, ◌+◌, ◌*◌}
-use mathlib.Core.Path.{ap₂}
-use mathlib.Core.List.{List, ◌++◌}
-use lib.ListN.{take}
+use mathlib.Core.Path.{◌≡◌, ap, ◌∙◌}
 use native.Mathlib.Omega.{arith}
-use borrow.Rule.Slice.PartMut.{Post-is}
-use Rattle.rows.specs.Rows.{with_slots}
+use Rattle.rows.proofs.RowLaws.{written_to, write_step, write-end}
 use Rattle.rows.proofs.write_row.Goals as goal
 
+pub loop-j-preserved : goal.loop-j-preserved
+loop-j-preserved c =
+    let a = c.args in
+    let xs = a.xs.now in
+    write_step a.i xs (omega arith) (omega arith) a.row (omega arith) c.loop-j.xs c.loop-j.j (omega arith) c.loop-j.invariant
+
 pub returns : goal.returns
-unfolding with_slots
 returns c =
-    let at = c.args.i * 8 in
-    let xs = c.args.xs.now in
-    ap₂ (λ (row rest : List ℕ). take at xs ++ (row ++ rest)) c.copy_from_slice.ensures.after (Post-is at (at + 8) xs (omega arith))
+    let a = c.args in
+    let xs = a.xs.now in
+    let e : c.loop-j.j ≡ 8 = omega arith in
+    c.loop-j.invariant ∙ ap (written_to a.i a.row xs) e ∙ write-end a.i xs (omega arith) (omega arith) a.row (omega arith)
