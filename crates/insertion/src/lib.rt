@@ -19,13 +19,15 @@ fn slot_for(dues: [u64; ENTRIES], count: usize, due: u64) -> usize
     0
 }
 
-// x at slot k of the first n numbers; those from k on move one slot down.
+// x at slot k of the first n numbers; those from k on move one slot down. A loop: `copy_within` would need memmove of a board.
 fn insert(xs: [u64; ENTRIES], k: usize, n: usize, x: u64) -> [u64; ENTRIES]
     requires { (k ≤ n) × (n < entries) }
     ensures { result ≡ inserted k n x xs }
 {
     let mut r = xs;
-    r.copy_within(k..n, k + 1);
+    for i in (k..n).rev() {
+        r[i + 1] = xs[i];
+    }
     r[k] = x;
     r
 }

@@ -21,10 +21,12 @@ fn close(lists: &mut [u8; LIST_BYTES], at: usize, n: usize)
     requires { (0 < n) × (at + n ≤ list_bytes) }
     ensures { lists.new ≡ closed lists.old at n }
 {
-    // from place 1 to place 0 of the run alone: compiled as one move
-    let run = &mut lists[at..at + n];
-    run.copy_within(1.., 0);
-    run[n - 1] = 0;
+    // a loop: `copy_within` would need memmove of a board
+    let last = n - 1;
+    for j in 0..last {
+        lists[at + j] = lists[at + j + 1];
+    }
+    lists[at + last] = 0;
 }
 
 // Thread i leaves list p, and the others keep their order; the answer is the word of the lists as they then are.

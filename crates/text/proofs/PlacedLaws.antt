@@ -4,8 +4,8 @@ use mathlib.Core.Path.{◌≡◌, refl, ap, sym, ◌∙◌}
 use mathlib.Core.List.{List, [], ◌∷◌, ◌++◌, append_assoc}
 use native.Mathlib.Omega.{arith}
 use native.Mathlib.Numerals.{add-one}
-use lib.ListN.{length, take, drop, set, length-append, length-drop, take-append-drop}
-use lib.Seq.{set_split, take_at, drop-append-add, drop-drop, length-take-le}
+use lib.ListN.{length, take, drop, get_or, set, length-append, length-drop, take-append-drop}
+use lib.Seq.{set_split, take_at, take-suc, drop-append-add, drop-drop, length-take-le}
 use Rattle.text.specs.Placed.{placed, Put}
 
 -- a buffer keeps its length
@@ -46,6 +46,16 @@ then {o} {v} {o₁} {w} {o₂} {at} {r₁} {r₂} h a b =
 
 pub after : {o v o₁ w o₂ : List ℕ} {at r₁ r₂ : ℕ} → r₁ ≤ length o → Put o at v o₁ r₁ → Put o₁ r₁ w o₂ r₂ → Put o at (v ++ w) o₂ r₂
 after h a b = then (omega (arith, a.next)) a b
+
+-- one byte more of a word
+pub word_next : {o o₁ o₂ : List ℕ} {at here r : ℕ} (w : List ℕ) (i : ℕ) → at + length w ≤ length o → i < length w
+    → Put o at (take i w) o₁ here → Put o₁ here (get_or w i 0 ∷ []) o₂ r → Put o at (take (i + 1) w) o₂ r
+word_next w i h l a b =
+    rw (add-one, take-suc w i 0 l) (then (omega (arith, length-take-le i w (omega arith))) a b)
+
+-- the offset after i bytes of a word
+pub word-offset : {o o₁ : List ℕ} {at here : ℕ} (w : List ℕ) (i : ℕ) → i ≤ length w → Put o at (take i w) o₁ here → here ≡ at + i
+word-offset w i h a = omega (arith, a.next, length-take-le i w h)
 
 -- the length that is left by a function that puts bytes
 pub length-put : {o v o' : List ℕ} {at r : ℕ} → at + length v ≤ length o → Put o at v o' r → length o' ≡ length o

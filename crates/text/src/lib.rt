@@ -19,9 +19,12 @@ pub fn put_word(out: &mut [u8], at: usize, word: &[u8]) -> usize
     requires { at + length word.now ≤ length out.old }
     ensures { Put out.old at word.now out.new result }
 {
-    let end = at + word.len();
-    out[at..end].copy_from_slice(word);
-    end
+    // a loop: a copy of the slice would need memmove of a board
+    let mut here = at;
+    for i in 0..word.len() {
+        here = put_byte(out, here, word[i]);
+    }
+    here
 }
 
 // A number in decimal, without leading zeros.

@@ -1,15 +1,24 @@
 -- `text::put_word` meets its contract.
-use Rattle.std.proofs.Common.{◌≡◌, ℕ, ◌+◌, ◌-◌, List, length, refl, arith}
-use Rattle.std.proofs.lemmas.List.{drop-drop}
-use borrow.Rule.Slice.PartMut.{put_mid}
-use Rattle.text.specs.Placed.{placed, Put}
+use mathlib.Core.Path.{refl, ◌∙◌}
+use native.Mathlib.Omega.{arith}
+use lib.Seq.{take_all}
+use Rattle.text.proofs.PlacedLaws.{nothing, word_next, word-offset}
 use Rattle.text.proofs.put_word.Goals as goal
 
-part-put : (o v w : List ℕ) (at end : ℕ) → end ≡ at + length v → w ≡ v → Put o at v (put_mid at (end - at) o w) end
-unfolding placed
-part-put o v w at end e q =
-    let z : at + (end - at) ≡ at + length v = omega arith in
-    record { next = e; holds = rw (drop-drop, z, q) }
+pub loop-i-init : goal.loop-i-init
+loop-i-init c = (refl, nothing _ _)
+
+pub put_byte-here-requires : goal.put_byte-here-requires
+put_byte-here-requires c =
+    let w = c.loop-i in
+    omega (arith, w.invariant.0, word-offset _ w.i (omega arith) w.invariant.1, c.requires)
+
+pub loop-i-preserved : goal.loop-i-preserved
+loop-i-preserved c =
+    let w = c.loop-i in (
+      c.put_byte-here.auto.out ∙ w.invariant.0,
+      word_next c.args.word.now w.i c.requires (omega arith) w.invariant.1 c.put_byte-here.ensures,
+    )
 
 pub returns : goal.returns
-returns c = part-put _ _ _ _ _ refl c.copy_from_slice.ensures.after
+returns c = rw (take_all c.loop-i.i c.args.word.now (omega arith)) at c.loop-i.invariant.1

@@ -1,0 +1,2 @@
+-- Laws of the gap that a list closes.
+pub mod GapLaws
