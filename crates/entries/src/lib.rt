@@ -21,8 +21,8 @@ pub fn count_after(first: bool, amount: u64, count: u8) -> u8
     count + 1
 }
 
-// Each number one slot up; the last slot is 0. A loop over a known length becomes a few moves in its caller; `copy_within` stays a call, which a
-// moment feels.
+// Each number one slot up; the last slot is 0. A loop over a known length becomes a few moves in its caller; `copy_within` goes through a copy on the
+// stack, which a moment feels.
 pub fn without_first(xs: [u64; ENTRIES]) -> [u64; ENTRIES]
     ensures { result ≡ without_first xs }
 {

@@ -64,6 +64,12 @@ fn move_to_tail(c: Case, i: u8, p: u8) -> Case {
     with_place(Case { lists, word, ..c }, at, p)
 }
 
+// A word, and after a space its number.
+fn told(word: &[u8], n: u64) {
+    text(word);
+    labelled(b" ", n);
+}
+
 // The first bytes of a row: at most n after the length.
 fn show_row(row: &[u8], n: u8) {
     for x in row.iter().take(usize::from(n) + 1) {
@@ -78,7 +84,7 @@ fn show_list(lists: [u8; LIST_BYTES], p: u8) {
     }
     let at = ready::row_start(p);
     let n = lists[at];
-    labelled(b" list ", u64::from(p));
+    told(b" list", u64::from(p));
     text(b":");
     show_row(&lists[at..at + ROW_BYTES], n);
 }
@@ -86,18 +92,18 @@ fn show_list(lists: [u8; LIST_BYTES], p: u8) {
 // The head of the highest list.
 fn show_head(c: Case) {
     let p = ready::highest(c.word);
-    labelled(b" highest ", u64::from(p));
+    told(b" highest", u64::from(p));
     if c.word == 0 || !is_sound(c) {
         return;
     }
-    labelled(b" head ", u64::from(ready::head(&c.lists, p)));
+    told(b" head", u64::from(ready::head(&c.lists, p)));
 }
 
 // A line: the case's name, whether it is sound, the word, the highest list with its head, and the lists p and q.
 fn show(name: &[u8], c: Case, p: u8, q: u8) {
     text(name);
-    labelled(b": sound ", u64::from(is_sound(c)));
-    labelled(b" word ", u64::from(c.word));
+    told(b": sound", u64::from(is_sound(c)));
+    told(b" word", u64::from(c.word));
     show_head(c);
     show_list(c.lists, p);
     show_list(c.lists, q);

@@ -7,7 +7,7 @@ ghost use Rattle.io.specs.Counts.{IsPrefixLen};
 
 use std::env::{Env, FillError};
 use std::rt::Files;
-use vector_lines::{line, text, title};
+use vector_lines::{line, text};
 
 // The whole of the file that argument i names, where it fits the buffer; a file that can't be opened is named on the error output.
 fn stored(rt: &(impl Env + Files + Input), i: usize, file: &mut [u8]) -> usize
@@ -27,12 +27,12 @@ fn rewritten(rt: &(impl Env + Files + Input), i: usize, name: &[u8]) {
     let cleared = io::large_buffer();
     if w.status == 0 {
         if check::same(&file, &out) {
-            title(b"same");
+            text(b"same\n");
         }
         return;
     }
     if check::same(&cleared, &out) {
-        title(b"unchanged");
+        text(b"unchanged\n");
     }
 }
 

@@ -28,8 +28,8 @@ pub fn clear(xs: &mut Slots)
     *xs = [0u64; SLOTS];
 }
 
-// Thread i's slots. Here and in `write_row` a loop over a known length becomes a few moves in its caller; a copy of a part of the slice stays a call,
-// which a moment feels.
+// Thread i's slots. Here and in `write_row` a loop over a known length becomes a few moves in its caller; a copy of a part of the slice goes through
+// another copy on the stack, which a moment feels.
 pub fn read_row(xs: &Slots, i: usize) -> [u64; ENTRIES]
     requires { i < most_threads }
     ensures { result ≡ slots_at i xs.now }

@@ -4,7 +4,7 @@
 
 use records::{Event, Header, Parameters, SCHED_SPORADIC};
 use trace_records::NO_EVENT;
-use vector_lines::{labelled, line, title};
+use vector_lines::{labelled, line, text};
 
 const USED: Parameters = Parameters {
     policy: SCHED_SPORADIC,
@@ -141,7 +141,7 @@ fn rooms() {
     line(b"room for 199 of 200 bytes", made(2, 3, &mut file, 199));
     let cleared = io::large_buffer();
     if check::same(&file, &cleared) {
-        title(b"unchanged");
+        text(b"unchanged\n");
     }
     line(b"room for 200", made(2, 3, &mut file, 200));
     line(b"as written", status(&file, 200));
